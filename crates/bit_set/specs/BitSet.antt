@@ -1,0 +1,33 @@
+-- A set of numbers 0..63 is a 64-bit word: n is a member if the word's binary digit n is 1.
+use Prim.Native.Nat.{ℕ, _+_, _-_, _/_, _%_, _^_, _<_}
+use mathlib.Core.Bool.{Bool}
+use lib.Dec.{eqb, leb}
+use lib.Bits.{bitAnd, bitOr}
+use Rattle.notation.specs.Choice.{if_then_else_}
+use Rattle.sizes.specs.Sizes.{registers}
+
+-- bits of the word: one for each number from 0 to the last register
+abbrev pub members : ℕ
+members = registers + 1
+
+-- what is a set: a word of so many bits
+abbrev pub Set : ℕ → Type 0
+Set s = s < 2 ^ members
+
+unfoldable pub has : ℕ → ℕ → Bool
+has s n = eqb (s / 2 ^ n % 2) 1
+
+abbrev pub emptySet : ℕ
+emptySet = 0
+
+-- the set with n; a number past the last register is left out
+unfoldable pub inserted : ℕ → ℕ → ℕ
+inserted s n = if leb n registers then bitOr s (2 ^ n) else s
+
+-- the set without n
+unfoldable pub removed : ℕ → ℕ → ℕ
+removed s n = if leb n registers then bitAnd s (2 ^ members - 1 - 2 ^ n) else s
+
+-- the members of either
+unfoldable pub union : ℕ → ℕ → ℕ
+union s t = bitOr s t

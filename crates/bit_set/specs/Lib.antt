@@ -1,0 +1,3 @@
+pub mod BitSet
+pub mod DigitLaws
+pub mod BitSetLaws

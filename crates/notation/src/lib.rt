@@ -1,0 +1,1 @@
+// Words that the definitions of every crate share; there is no code here.

@@ -1,0 +1,4 @@
+pub mod Numbers
+pub mod ReadLaws
+pub mod DecimalLaws
+pub mod NumberTrips

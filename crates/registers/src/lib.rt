@@ -1,0 +1,28 @@
+// Places of a variable: a register `x`, for a temporary, or a slot of the stack `y`, for a permanent variable.
+ghost use mathlib.Core.List.{_∷_};
+ghost use Rattle.numbers.specs.Numbers.{decimal};
+ghost use Rattle.printing.specs.Printing.{Put};
+ghost use Rattle.registers.specs.Registers.{registerText};
+
+pub enum RegType {
+    Temp(u8),
+    Perm(u8),
+}
+
+// The place as it is printed, `x3` or `y1`.
+pub fn put_register(out: &mut [u8], at: usize, place: RegType) -> usize
+    ensures { λ r. ⌜ Put (now (out .entry)) at (registerText place) r (now (out .exit)) ⌝ }
+{
+    match place {
+        RegType::Temp(r) => put_lettered(out, at, b'x', r),
+        RegType::Perm(r) => put_lettered(out, at, b'y', r),
+    }
+}
+
+// A letter and a number behind it.
+fn put_lettered(out: &mut [u8], at: usize, letter: u8, n: u8) -> usize
+    ensures { λ r. ⌜ Put (now (out .entry)) at (letter ∷ decimal n) r (now (out .exit)) ⌝ }
+{
+    let next = printing::put_byte(out, at, letter);
+    printing::put_number(out, next, n as u32)
+}
