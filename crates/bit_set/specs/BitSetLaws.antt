@@ -43,9 +43,10 @@ none-left s q b e = e ∙ sym (ap (λ (x : Bool). x && b) e)
 -- a removal past the last register takes out nothing, and there is nothing to take out
 untouched : (s n q : ℕ) → Set s → registers < n → has s q ≡ (has s q && not (eqb q n))
 untouched s n q hs h =
-    elim (eqb q n) as (λ t. eqb q n ≡ t → has s q ≡ (has s q && not t))
-    [ true ↦ λ e. none-left s q false (has-outside s q hs (omega (arith, eqb-true q n e)))
-    | false ↦ λ e. sym (and-true (has s q)) ]
+    elim (eqb q n) as (λ t. eqb q n ≡ t → has s q ≡ (has s q && not t)) [
+      | true ↦ λ e. none-left s q false (has-outside s q hs (omega (arith, eqb-true q n e)))
+      | false ↦ λ e. sym (and-true (has s q))
+    ]
     refl
 
 masked : (s n q : ℕ) → Set s → n ≤ registers → has (removed s n) q ≡ (has s q && not (eqb q n))
@@ -54,17 +55,19 @@ masked s n q hs h =
     simp (le-leb _ _ h)
     (has-and s (2 ^ members - 1 - 2 ^ n) q
     ∙ elim (leb q registers) as
-      (λ t. leb q registers ≡ t → (has s q && has (2 ^ members - 1 - 2 ^ n) q) ≡ (has s q && not (eqb q n)))
-      [ true ↦ λ e. ap (λ (b : Bool). has s q && b) (has-complement members (2 ^ n) q (omega (arith, leb-true q registers e)) (set-single n h) ∙ ap not (has-pow n q))
-      | false ↦ λ e. (let none = has-outside s q hs (leb-false q registers e) in sym (none-left s q _ none) ∙ none-left s q _ none) ]
-      refl)
+    (λ t. leb q registers ≡ t → (has s q && has (2 ^ members - 1 - 2 ^ n) q) ≡ (has s q && not (eqb q n))) [
+      | true ↦ λ e. ap (λ (b : Bool). has s q && b) (has-complement members (2 ^ n) q (omega (arith, leb-true q registers e)) (set-single n h) ∙ ap not (has-pow n q))
+      | false ↦ λ e. (let none = has-outside s q hs (leb-false q registers e) in sym (none-left s q _ none) ∙ none-left s q _ none)
+    ]
+    refl)
 
 pub has-removed : (s n q : ℕ) → Set s → has (removed s n) q ≡ (has s q && not (eqb q n))
 has-removed s n q hs =
     elim (leb n registers) as
-    (λ t. leb n registers ≡ t → has (removed s n) q ≡ (has s q && not (eqb q n)))
-    [ true ↦ λ e. masked s n q hs (leb-true n registers e)
-    | false ↦ λ e. (let h = leb-false n registers e in ap (λ (x : ℕ). has x q) (removed-outside s n h) ∙ untouched s n q hs h) ]
+    (λ t. leb n registers ≡ t → has (removed s n) q ≡ (has s q && not (eqb q n))) [
+      | true ↦ λ e. masked s n q hs (leb-true n registers e)
+      | false ↦ λ e. (let h = leb-false n registers e in ap (λ (x : ℕ). has x q) (removed-outside s n h) ∙ untouched s n q hs h)
+    ]
     refl
 
 pub has-union : (s t q : ℕ) → has (union s t) q ≡ (has s q || has t q)

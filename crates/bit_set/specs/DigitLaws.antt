@@ -125,11 +125,11 @@ pub same-digits :
 same-digits zero s t hs ht e = omega arith
 same-digits (suc k) s t hs ht e =
     let low : s % 2 ≡ t % 2 =
-        same-row (s % 2) (t % 2) (omega arith) (omega arith)
-        (sym (has-first s) ∙ e zero (omega arith) ∙ has-first t)
+    same-row (s % 2) (t % 2) (omega arith) (omega arith)
+    (sym (has-first s) ∙ e zero (omega arith) ∙ has-first t)
     in
     let high : s / 2 ≡ t / 2 =
-        same-digits k (s / 2) (t / 2) (omega (arith, pow-suc 2 k)) (omega (arith, pow-suc 2 k))
-        (λ q h. sym (has-next s q) ∙ e (suc q) (omega arith) ∙ has-next t q)
+    same-digits k (s / 2) (t / 2) (omega (arith, pow-suc 2 k)) (omega (arith, pow-suc 2 k))
+    (λ q h. sym (has-next s q) ∙ e (suc q) (omega arith) ∙ has-next t q)
     in
     omega arith

@@ -3,7 +3,6 @@ ghost use mathlib.Core.Path.{_≡_};
 ghost use Prim.Native.Nat.{_^_, _≤_};
 ghost use Rattle.sizes.specs.Sizes.{registers};
 ghost use Rattle.bit_set.specs.BitSet.{has, emptySet, inserted, removed, union};
-
 use sizes::LAST_REGISTER;
 
 pub type BitSet = u64;
@@ -38,11 +37,7 @@ pub fn contains(s: BitSet, n: u8) -> bool
 pub fn insert(s: BitSet, n: u8) -> BitSet
     ensures { λ r. ⌜ r ≡ inserted s n ⌝ }
 {
-    if n <= LAST_REGISTER {
-        s | single(n)
-    } else {
-        s
-    }
+    if n <= LAST_REGISTER { s | single(n) } else { s }
 }
 
 // `s` without `n`.

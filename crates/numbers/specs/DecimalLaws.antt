@@ -54,9 +54,10 @@ written-le : (k n : ℕ) → length (written k n) ≤ k
 unfolding written
 written-le zero n = zero-le
 written-le (suc k) n =
-    elim (ltb n 10) as (λ t. length (if t then digit n ∷ [] else written k (n / 10) ++ (digit (n % 10) ∷ [])) ≤ suc k)
-    [ true ↦ omega arith
-    | false ↦ omega (arith, written-le k (n / 10), length-append (written k (n / 10)) (digit (n % 10) ∷ [])) ]
+    elim (ltb n 10) as (λ t. length (if t then digit n ∷ [] else written k (n / 10) ++ (digit (n % 10) ∷ [])) ≤ suc k) [
+      | true ↦ omega arith
+      | false ↦ omega (arith, written-le k (n / 10), length-append (written k (n / 10)) (digit (n % 10) ∷ []))
+    ]
 
 pub decimal-some : (n : ℕ) → 0 < length (decimal n)
 unfolding decimal

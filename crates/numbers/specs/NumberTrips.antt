@@ -59,7 +59,7 @@ printed-one n h =
       digits = digit-one n h;
       value = value-one 0 n ∙ omega arith;
       some = omega arith;
-      first = λ p e. omega arith
+      first = λ p e. omega arith;
     }
 
 printed-more : (s : List ℕ) (n : ℕ) → 10 ≤ n → Printed s (n / 10) → Printed (s ++ (digit (n % 10) ∷ [])) n
@@ -69,15 +69,16 @@ printed-more s n h p =
       digits = digits-append s last (p .digits) (digit-one (n % 10) (omega arith));
       value = value-append 0 s last ∙ rw (p .value) (value-one (n / 10) (n % 10) ∙ omega arith);
       some = omega (arith, length-append s last, p .some);
-      first = λ q e. p .first (omega arith) (sym (List·getD-append s last 0 0 (p .some)) ∙ e)
+      first = λ q e. p .first (omega arith) (sym (List·getD-append s last 0 0 (p .some)) ∙ e);
     }
 
 printed : (k n : ℕ) → n < 10 ^ suc k → Printed (written (suc k) n) n
 printed zero n h = rw (written-digit zero n (omega arith)) (printed-one n (omega arith))
 printed (suc k) n h =
-    elim (ltb n 10) as (λ t. ltb n 10 ≡ t → Printed (written (suc (suc k)) n) n)
-    [ true ↦ λ e. (let l = ltb-true n 10 e in rw (written-digit (suc k) n l) (printed-one n l))
-    | false ↦ λ e. (let l = ltb-false n 10 e in rw (written-more (suc k) n l) (printed-more _ n l (printed k (n / 10) (omega (arith, pow-suc 10 (suc k)))))) ]
+    elim (ltb n 10) as (λ t. ltb n 10 ≡ t → Printed (written (suc (suc k)) n) n) [
+      | true ↦ λ e. (let l = ltb-true n 10 e in rw (written-digit (suc k) n l) (printed-one n l))
+      | false ↦ λ e. (let l = ltb-false n 10 e in rw (written-more (suc k) n l) (printed-more _ n l (printed k (n / 10) (omega (arith, pow-suc 10 (suc k))))))
+    ]
     refl
 
 -- what is printed reads back
@@ -93,9 +94,10 @@ pub printed-is-read : (n : ℕ) → n ≤ largestNumber → numberOf (decimal n)
 unfolding decimal
 printed-is-read n h =
     let p : Printed (written 10 n) n = printed 9 n (omega arith) in
-    elim (ltb 0 n) as (λ t. ltb 0 n ≡ t → numberOf (written 10 n) ≡ Of n)
-    [ true ↦ λ e. number-printed _ n p h (needless-not _ (p .first (ltb-true 0 n e)))
-    | false ↦ λ e. number-printed _ n p h (rw (written-digit 9 n (omega (arith, ltb-false 0 n e))) (needless-one (digit n))) ]
+    elim (ltb 0 n) as (λ t. ltb 0 n ≡ t → numberOf (written 10 n) ≡ Of n) [
+      | true ↦ λ e. number-printed _ n p h (needless-not _ (p .first (ltb-true 0 n e)))
+      | false ↦ λ e. number-printed _ n p h (rw (written-digit 9 n (omega (arith, ltb-false 0 n e))) (needless-one (digit n)))
+    ]
     refl
 
 -- ---- What reads was printed so
@@ -114,19 +116,20 @@ record Reads (s : List ℕ) (n : ℕ) : Type 0 where
 reads : (s : List ℕ) (n : ℕ) → numberOf s ≡ Of n → Reads s n
 unfolding numberOf isNumber
 reads s n h =
-    (elim (isNumber s) as (λ t. isNumber s ≡ t → (if t then Of (valueFrom 0 s) else Malformed) ≡ Of n → Reads s n)
-    [ true ↦ λ e o. (let v : valueFrom 0 s ≡ n = cc in
-        let b = both-true _ (not (needlessZero s)) e in
-        let f = both-true _ (leb (valueFrom 0 s) largestNumber) (b .0) in
-        let d = both-true (ltb 0 (length s)) (allDigits s) (f .0) in
-        record {
-          digits = d .1;
-          value = v;
-          some = ltb-true 0 (length s) (d .0);
-          fits = omega (arith, leb-true (valueFrom 0 s) largestNumber (f .1));
-          needed = not-true (needlessZero s) (b .1)
-        })
-    | false ↦ λ e o. absurd (never n o) ])
+    (elim (isNumber s) as (λ t. isNumber s ≡ t → (if t then Of (valueFrom 0 s) else Malformed) ≡ Of n → Reads s n) [
+      | true ↦ λ e o. (let v : valueFrom 0 s ≡ n = cc in
+          let b = both-true _ (not (needlessZero s)) e in
+          let f = both-true _ (leb (valueFrom 0 s) largestNumber) (b .0) in
+          let d = both-true (ltb 0 (length s)) (allDigits s) (f .0) in
+          record {
+            digits = d .1;
+            value = v;
+            some = ltb-true 0 (length s) (d .0);
+            fits = omega (arith, leb-true (valueFrom 0 s) largestNumber (f .1));
+            needed = not-true (needlessZero s) (b .1);
+          })
+      | false ↦ λ e o. absurd (never n o)
+    ])
     refl h
 
 -- the first of some digits
@@ -163,7 +166,7 @@ value-printed (c ∷ cs) a p m h =
     let k : digit d ≡ c = omega (arith, g .low) in
     let u : a * 10 + d ≤ largestNumber = omega (arith, value-grows (a * 10 + d) cs) in
     let shown : decimal (a * 10 + d) ≡ decimal a ++ (c ∷ []) =
-        decimal-more (a * 10 + d) (omega arith) (omega arith) ∙ rw (digits-div a l, digits-mod a l, k)
+    decimal-more (a * 10 + d) (omega arith) (omega arith) ∙ rw (digits-div a l, digits-mod a l, k)
     in
     value-printed cs (a * 10 + d) (omega arith) m (g .rest)
     ∙ ap (λ (x : List ℕ). x ++ cs) shown

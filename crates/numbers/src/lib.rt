@@ -2,10 +2,10 @@
 ghost use mathlib.Core.Path.{_≡_};
 ghost use Rattle.numbers.specs.Numbers.{numberOf};
 ghost use Rattle.numbers.specs.ReadLaws.{readFrom};
-
 use sizes::LAST_NUMBER;
 
 const ZERO: u8 = b'0';
+
 const NINE: u8 = b'9';
 
 // What a field says as a number.

@@ -38,11 +38,12 @@ printed-cons out at c text h =
 printed-stores : (text out : List ℕ) (at : ℕ) → printed out at text ≡ sets out at text
 printed-stores [] out at = printed-nothing out at
 printed-stores (c ∷ text) out at =
-    elim (leb (length out) at) as (λ t. leb (length out) at ≡ t → printed out at (c ∷ text) ≡ sets (set out at c) (suc at) text)
-    [ true ↦ λ e. (let h = leb-true (length out) at e in
-        rw (set-out out at c h)
-        (printed-past out at (c ∷ text) h ∙ sym (sym (printed-stores text out (suc at)) ∙ printed-past out (suc at) text (omega arith))))
-    | false ↦ λ e. sym (printed-cons out at c text (leb-false (length out) at e)) ∙ printed-stores text (set out at c) (suc at) ]
+    elim (leb (length out) at) as (λ t. leb (length out) at ≡ t → printed out at (c ∷ text) ≡ sets (set out at c) (suc at) text) [
+      | true ↦ λ e. (let h = leb-true (length out) at e in
+          rw (set-out out at c h)
+          (printed-past out at (c ∷ text) h ∙ sym (sym (printed-stores text out (suc at)) ∙ printed-past out (suc at) text (omega arith))))
+      | false ↦ λ e. sym (printed-cons out at c text (leb-false (length out) at e)) ∙ printed-stores text (set out at c) (suc at)
+    ]
     refl
 
 pub printed-length : (out : List ℕ) (at : ℕ) (text : List ℕ) → length (printed out at text) ≡ length out
@@ -77,13 +78,14 @@ printed-then :
     → printed (printed out at x) (placeAfter (length out) at x) y ≡ printed out at (x ++ y)
 printed-then out at x y =
     elim (leb (at + length x) (length out)) as
-    (λ t. leb (at + length x) (length out) ≡ t → printed (printed out at x) (placeAfter (length out) at x) y ≡ printed out at (x ++ y))
-    [ true ↦ λ e. rw (place-fits (length out) at x (leb-true _ _ e)) (printed-append out at x y)
-    | false ↦ λ e. (let h = leb-false (at + length x) (length out) e in
-        let l = printed-length out at x in
-        rw (place-past (length out) at x h)
-        (printed-past (printed out at x) (length out + 1) y (omega arith)
-        ∙ sym (sym (printed-append out at x y) ∙ printed-past (printed out at x) (at + length x) y (omega arith)))) ]
+    (λ t. leb (at + length x) (length out) ≡ t → printed (printed out at x) (placeAfter (length out) at x) y ≡ printed out at (x ++ y)) [
+      | true ↦ λ e. rw (place-fits (length out) at x (leb-true _ _ e)) (printed-append out at x y)
+      | false ↦ λ e. (let h = leb-false (at + length x) (length out) e in
+          let l = printed-length out at x in
+          rw (place-past (length out) at x h)
+          (printed-past (printed out at x) (length out + 1) y (omega arith)
+          ∙ sym (sym (printed-append out at x y) ∙ printed-past (printed out at x) (at + length x) y (omega arith))))
+    ]
     refl
 
 place-append : (room at : ℕ) (x y : List ℕ) → placeAfter room (at + length x) y ≡ placeAfter room at (x ++ y)
@@ -96,19 +98,20 @@ place-then :
     (room at : ℕ) (x y : List ℕ) → placeAfter room (placeAfter room at x) y ≡ placeAfter room at (x ++ y)
 place-then room at x y =
     elim (leb (at + length x) room) as
-    (λ t. leb (at + length x) room ≡ t → placeAfter room (placeAfter room at x) y ≡ placeAfter room at (x ++ y))
-    [ true ↦ λ e. rw (place-fits room at x (leb-true _ _ e)) (place-append room at x y)
-    | false ↦ λ e. (let h = leb-false (at + length x) room e in
-        rw (place-past room at x h)
-        (place-past room (room + 1) y (omega arith)
-        ∙ sym (place-past room at (x ++ y) (omega (arith, length-append x y))))) ]
+    (λ t. leb (at + length x) room ≡ t → placeAfter room (placeAfter room at x) y ≡ placeAfter room at (x ++ y)) [
+      | true ↦ λ e. rw (place-fits room at x (leb-true _ _ e)) (place-append room at x y)
+      | false ↦ λ e. (let h = leb-false (at + length x) room e in
+          rw (place-past room at x h)
+          (place-past room (room + 1) y (omega arith)
+          ∙ sym (place-past room at (x ++ y) (omega (arith, length-append x y)))))
+    ]
     refl
 
 pub put-nothing : (out : List ℕ) (at : ℕ) → at ≤ length out → Put out at [] at out
 put-nothing out at h =
     record {
       place = sym (place-fits (length out) at [] (omega arith) ∙ omega arith);
-      bytes = sym (printed-nothing out at)
+      bytes = sym (printed-nothing out at);
     }
 
 pub put-one : (out : List ℕ) (at c : ℕ) → at < length out → Put out at (c ∷ []) (at + 1) (set out at c)
@@ -133,7 +136,7 @@ pub put-then :
 put-then {out} {at} {x} {y = y} p q =
     record {
       place = q .place ∙ rw (put-length p, p .place) (place-then (length out) at x y);
-      bytes = q .bytes ∙ rw (p .bytes, p .place) (printed-then out at x y)
+      bytes = q .bytes ∙ rw (p .bytes, p .place) (printed-then out at x y);
     }
 
 -- and no second answer fits
@@ -144,12 +147,14 @@ put-unique p q = (p .place ∙ sym (q .place), p .bytes ∙ sym (q .bytes))
 
 -- all of a run of texts fitted exactly if the place after it is within the room
 pub place-exactly : (room at : ℕ) (text : List ℕ) → (placeAfter room at text ≤ room) ↔ (at + length text ≤ room)
-place-exactly room at text =
-    (λ h. elim (leb (at + length text) room) as (λ t. leb (at + length text) room ≡ t → at + length text ≤ room)
-    [ true ↦ λ e. leb-true _ _ e
-    | false ↦ λ e. absurd (omega (arith, place-past room at text (leb-false (at + length text) room e))) ]
-    refl,
-    λ h. omega (arith, place-fits room at text h))
+place-exactly room at text = (
+  λ h. elim (leb (at + length text) room) as (λ t. leb (at + length text) room ≡ t → at + length text ≤ room) [
+    | true ↦ λ e. leb-true _ _ e
+    | false ↦ λ e. absurd (omega (arith, place-past room at text (leb-false (at + length text) room e)))
+  ]
+      refl,
+  λ h. omega (arith, place-fits room at text h),
+)
 
 -- ---- What stands at each place afterwards
 

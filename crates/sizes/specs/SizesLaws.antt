@@ -8,9 +8,10 @@ use Rattle.notation.specs.ChoiceLaws.{both-true}
 use Rattle.sizes.specs.Sizes.{registers, chunks, counts, isRegister, isArgument, isChunk, isCount}
 
 pub register-exactly : (n : ℕ) → (isRegister n ≡ true) ↔ ((1 ≤ n) × (n ≤ registers))
-register-exactly n =
-    (λ h. let b = both-true _ _ h in (leb-true 1 n (b .0), leb-true n registers (b .1)),
-    λ h. simp (le-leb _ _ (h .0), le-leb _ _ (h .1)))
+register-exactly n = (
+  λ h. let b = both-true _ _ h in (leb-true 1 n (b .0), leb-true n registers (b .1)),
+  λ h. simp (le-leb _ _ (h .0), le-leb _ _ (h .1)),
+)
 
 pub argument-exactly : (n : ℕ) → (isArgument n ≡ true) ↔ (n ≤ registers)
 argument-exactly n = (leb-true n registers, le-leb n registers)

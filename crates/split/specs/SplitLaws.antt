@@ -62,6 +62,10 @@ pub after-length :
 after-length mark s h =
     rw (← passed mark s) (omega (arith, length-drop (suc (length (before mark s))) s))
 
+-- what follows a byte is shorter than the whole: a walk from part to part ends
+pub drop-shorter : (end : ℕ) (s : List ℕ) → end < length s → length (drop (end + 1) s) < length s
+drop-shorter end s h = omega (arith, length-drop (end + 1) s)
+
 -- where no mark was found, nothing follows
 pub after-none : (mark : ℕ) (s : List ℕ) → length s ≤ length (before mark s) → after mark s ≡ []
 after-none mark s h =
@@ -120,6 +124,7 @@ unfolding split
 split-le mark [] = omega arith
 split-le mark (c ∷ cs) =
     elim (eqb c mark) as
-    (λ t. length (if t then [] ∷ split mark cs else inFront c (split mark cs)) ≤ suc (suc (length cs)))
-    [ true ↦ suc-le-suc (split-le mark cs)
-    | false ↦ omega (arith, split-le mark cs, inFront-length c (split mark cs)) ]
+    (λ t. length (if t then [] ∷ split mark cs else inFront c (split mark cs)) ≤ suc (suc (length cs))) [
+      | true ↦ suc-le-suc (split-le mark cs)
+      | false ↦ omega (arith, split-le mark cs, inFront-length c (split mark cs))
+    ]

@@ -55,9 +55,10 @@ unfolding split
 joined-split mark [] = joined-one mark []
 joined-split mark (c ∷ cs) =
     elim (eqb c mark) as
-    (λ t. eqb c mark ≡ t → joined mark (if t then [] ∷ split mark cs else inFront c (split mark cs)) ≡ c ∷ cs)
-    [ true ↦ λ e. joined-mark mark (split mark cs) _ _ (split-some mark cs) ∙ ap₂ (λ (x : ℕ) (l : List ℕ). x ∷ l) (sym (eqb-true c mark e)) (joined-split mark cs)
-    | false ↦ λ e. joined-inFront mark c (split mark cs) _ _ (split-some mark cs) ∙ ap (λ (l : List ℕ). c ∷ l) (joined-split mark cs) ]
+    (λ t. eqb c mark ≡ t → joined mark (if t then [] ∷ split mark cs else inFront c (split mark cs)) ≡ c ∷ cs) [
+      | true ↦ λ e. joined-mark mark (split mark cs) _ _ (split-some mark cs) ∙ ap₂ (λ (x : ℕ) (l : List ℕ). x ∷ l) (sym (eqb-true c mark e)) (joined-split mark cs)
+      | false ↦ λ e. joined-inFront mark c (split mark cs) _ _ (split-some mark cs) ∙ ap (λ (l : List ℕ). c ∷ l) (joined-split mark cs)
+    ]
     refl
 
 -- ---- No part holds the mark

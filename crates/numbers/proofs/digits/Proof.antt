@@ -12,7 +12,7 @@ use Rattle.numbers.proofs.digits.Statement.{statement}
 use Rattle.numbers.proofs.digits.Tie as tie
 
 abbrev Inv-loop : tie.InvT-loop
-Inv-loop field value₀ i₀ value i =     (i ≤ length field) × (value ≤ largestNumber) × (readFrom 0 field ≡ readFrom value (drop i field))
+Inv-loop field value₀ i₀ value i = (i ≤ length field) × (value ≤ largestNumber) × (readFrom 0 field ≡ readFrom value (drop i field))
 
 abbrev μ-loop : tie.MeasureT-loop
 μ-loop field value₀ i₀ value i = length field - i
@@ -65,12 +65,13 @@ loop-less c = search needs
 loop-again : tie.Need-loop-again Inv-loop μ-loop
 loop-again c =
     let l = c .before .before .before .before .before .before .loop in
-    let s = c .before .before .before .before .before .before .before .before .args .field .now in
-    (omega arith,
-    omega arith,
-    l .inv .2
-    ∙ rw (add-one, c .before .wide .ensures)
-      (read-more s (l .i) (l .value) (search needs) (search needs) (search needs)))
+    let s = c .before .before .before .before .before .before .before .before .args .field .now in (
+      omega arith,
+      omega arith,
+      l .inv .2
+          ∙ rw (add-one, c .before .wide .ensures)
+          (read-more s (l .i) (l .value) (search needs) (search needs) (search needs)),
+    )
 
 cast-t11 : tie.Need-cast-t11 Inv-loop μ-loop
 cast-t11 c = search needs

@@ -39,9 +39,10 @@ loop-less c = search needs
 loop-again : tie.Need-loop-again Inv-loop μ-loop
 loop-again c =
     let a = c .before .before .before .before .args in
-    let i = c .before .before .before .loop .i in
-    (omega arith,
-    rw (add-one i) (omega (arith, before-miss (a .mark) (a .bytes .now) i (search needs) (c .if1 .left))))
+    let i = c .before .before .before .loop .i in (
+      omega arith,
+      rw (add-one i) (omega (arith, before-miss (a .mark) (a .bytes .now) i (search needs) (c .if1 .left))),
+    )
 
 returns-2 : tie.Need-returns-2 Inv-loop μ-loop
 returns-2 c =

@@ -12,7 +12,7 @@ use Rattle.words.proofs.is.Statement.{statement}
 use Rattle.words.proofs.is.Tie as tie
 
 abbrev Inv-loop : tie.InvT-loop
-Inv-loop field word i₀ i =     (i ≤ length field) × (length field ≡ length word) × (same field word ≡ same (drop i field) (drop i word))
+Inv-loop field word i₀ i = (i ≤ length field) × (length field ≡ length word) × (same field word ≡ same (drop i field) (drop i word))
 
 abbrev μ-loop : tie.MeasureT-loop
 μ-loop field word i₀ i = length field - i
@@ -44,10 +44,11 @@ loop-less c = search needs
 loop-again : tie.Need-loop-again Inv-loop μ-loop
 loop-again c =
     let l = c .before .before .before .before .loop in
-    let a = c .before .before .before .before .before .before .args in
-    (omega arith,
-    l .inv .1,
-    l .inv .2 ∙ rw add-one (same-on (a .field .now) (a .word .now) (l .i) (omega arith) (omega arith) (c .if2 .left)))
+    let a = c .before .before .before .before .before .before .args in (
+      omega arith,
+      l .inv .1,
+      l .inv .2 ∙ rw add-one (same-on (a .field .now) (a .word .now) (l .i) (omega arith) (omega arith) (c .if2 .left)),
+    )
 
 returns-3 : tie.Need-returns-3 Inv-loop μ-loop
 returns-3 c =
