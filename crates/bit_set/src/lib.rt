@@ -15,7 +15,7 @@ pub fn empty() -> BitSet
 }
 
 // The word whose one member is `n`.
-fn single(n: u8) -> BitSet
+fn single(n: u32) -> BitSet
     requires { ⌜ n ≤ registers ⌝ }
     ensures { λ r. ⌜ r ≡ 2 ^ n ⌝ }
 {
@@ -23,7 +23,7 @@ fn single(n: u8) -> BitSet
 }
 
 // Whether `n` is a member of `s`; no set has a member above 63.
-pub fn contains(s: BitSet, n: u8) -> bool
+pub fn contains(s: BitSet, n: u32) -> bool
     ensures { λ r. ⌜ r ≡ has s n ⌝ }
 {
     if n <= LAST_REGISTER {
@@ -34,14 +34,14 @@ pub fn contains(s: BitSet, n: u8) -> bool
 }
 
 // `s` with `n`; a number above 63 is left out.
-pub fn insert(s: BitSet, n: u8) -> BitSet
+pub fn insert(s: BitSet, n: u32) -> BitSet
     ensures { λ r. ⌜ r ≡ inserted s n ⌝ }
 {
     if n <= LAST_REGISTER { s | single(n) } else { s }
 }
 
 // `s` without `n`.
-pub fn remove(s: BitSet, n: u8) -> BitSet
+pub fn remove(s: BitSet, n: u32) -> BitSet
     ensures { λ r. ⌜ r ≡ removed s n ⌝ }
 {
     if n <= LAST_REGISTER {

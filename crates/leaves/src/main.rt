@@ -33,7 +33,7 @@ fn show_field(out: &mut [u8], shown: Shown, field: &[u8]) -> Shown {
 // The set with n, if n is a register's number.
 fn with_register(found: BitSet, n: u32) -> BitSet {
     if sizes::is_register(n) {
-        return bit_set::insert(found, (n % 256) as u8);
+        return bit_set::insert(found, n);
     }
     found
 }
@@ -58,7 +58,7 @@ fn show_fields(out: &mut [u8], line: &[u8]) -> Shown {
 }
 
 // A tab and the register `r`, if it is a member.
-fn show_member(out: &mut [u8], at: usize, found: BitSet, r: u8) -> usize {
+fn show_member(out: &mut [u8], at: usize, found: BitSet, r: u32) -> usize {
     if bit_set::contains(found, r) {
         let next = printing::put_byte(out, at, TAB);
         return registers::put_register(out, next, RegType::Temp(r));

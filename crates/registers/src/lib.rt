@@ -5,8 +5,8 @@ ghost use Rattle.printing.specs.Printing.{Put};
 ghost use Rattle.registers.specs.Registers.{registerText};
 
 pub enum RegType {
-    Temp(u8),
-    Perm(u8),
+    Temp(u32),
+    Perm(u32),
 }
 
 // The place as it is printed, `x3` or `y1`.
@@ -20,9 +20,9 @@ pub fn put_register(out: &mut [u8], at: usize, place: RegType) -> usize
 }
 
 // A letter and a number behind it.
-fn put_lettered(out: &mut [u8], at: usize, letter: u8, n: u8) -> usize
+fn put_lettered(out: &mut [u8], at: usize, letter: u8, n: u32) -> usize
     ensures { λ r. ⌜ Put (now (out .entry)) at (letter ∷ decimal n) r (now (out .exit)) ⌝ }
 {
     let next = printing::put_byte(out, at, letter);
-    printing::put_number(out, next, n as u32)
+    printing::put_number(out, next, n)
 }

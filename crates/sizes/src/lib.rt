@@ -7,13 +7,13 @@ pub const VARIABLES: usize = 64;
 // Uses of one variable.
 pub const USES: usize = 16;
 // Registers and slots are 1 to this; arguments and cells 0 to this.
-pub const LAST_REGISTER: u8 = 63;
+pub const LAST_REGISTER: u32 = 63;
 // `temp_lb`, `perm_lb` and the argument counter run from 1 to this.
-pub const LAST_COUNTER: u16 = 64;
+pub const LAST_COUNTER: u32 = 64;
 // Chunks are 0 to this.
-pub const LAST_CHUNK: u8 = 255;
+pub const LAST_CHUNK: u32 = 255;
 // Occurrences, running counts, arms and arm indices are 0 to this.
-pub const LAST_COUNT: u16 = 65535;
+pub const LAST_COUNT: u32 = 65535;
 // Branches open at a time.
 pub const OPEN_BRANCHES: usize = 16;
 // Entries of the list of freed registers.
@@ -33,26 +33,26 @@ pub const LAST_NUMBER: u32 = 4294967295;
 pub fn is_register(n: u32) -> bool
     ensures { λ r. ⌜ r ≡ isRegister n ⌝ }
 {
-    1 <= n && n <= LAST_REGISTER as u32
+    1 <= n && n <= LAST_REGISTER
 }
 
 // Whether `n` is a number of arguments, or a cell.
 pub fn is_argument(n: u32) -> bool
     ensures { λ r. ⌜ r ≡ isArgument n ⌝ }
 {
-    n <= LAST_REGISTER as u32
+    n <= LAST_REGISTER
 }
 
 // Whether `n` is a chunk's number.
 pub fn is_chunk(n: u32) -> bool
     ensures { λ r. ⌜ r ≡ isChunk n ⌝ }
 {
-    n <= LAST_CHUNK as u32
+    n <= LAST_CHUNK
 }
 
 // Whether `n` is a count of occurrences or of arms.
 pub fn is_count(n: u32) -> bool
     ensures { λ r. ⌜ r ≡ isCount n ⌝ }
 {
-    n <= LAST_COUNT as u32
+    n <= LAST_COUNT
 }
