@@ -1,0 +1,96 @@
+//! Answers event sheets from standard input as the original Rust decides them.
+
+use oracle::frames::{read_frame, write_frame};
+use oracle::judge::judge;
+use oracle::limits::SHEET_BYTES;
+use oracle::program;
+use oracle::tally::Tally;
+use std::io::{self, BufRead, BufWriter, Write};
+use std::process::ExitCode;
+
+const USAGE: &str = "oracle [--room N] [--state] [--batch [--count]]";
+
+struct Options {
+    room: usize,
+    state: bool,
+    batch: bool,
+    count: bool,
+}
+
+fn read_options(words: &[&str]) -> Option<Options> {
+    let mut options = Options {
+        room: SHEET_BYTES,
+        state: false,
+        batch: false,
+        count: false,
+    };
+    let mut words = words.iter();
+    while let Some(word) = words.next() {
+        match *word {
+            "--room" => options.room = words.next()?.parse().ok()?,
+            "--state" => options.state = true,
+            "--batch" => options.batch = true,
+            "--count" => options.count = true,
+            _ => return None,
+        }
+    }
+    let counts_a_batch = options.batch || !options.count;
+    counts_a_batch.then_some(options)
+}
+
+fn response(sheet: &[u8], options: &Options) -> String {
+    match judge(sheet, options.room) {
+        Ok(accepted) if options.state => accepted.answer().to_string() + &accepted.state(),
+        Ok(accepted) => accepted.answer().to_string(),
+        Err(refused) => refused.answer(),
+    }
+}
+
+fn answer_one(
+    options: &Options,
+    input: &mut impl BufRead,
+    output: &mut impl Write,
+) -> io::Result<()> {
+    let mut sheet = Vec::new();
+    input.read_to_end(&mut sheet)?;
+    output.write_all(response(&sheet, options).as_bytes())
+}
+
+fn answer_batch(
+    options: &Options,
+    input: &mut impl BufRead,
+    output: &mut impl Write,
+) -> io::Result<()> {
+    while let Some(sheet) = read_frame(input)? {
+        write_frame(output, response(&sheet, options).as_bytes())?;
+    }
+    Ok(())
+}
+
+fn count_batch(
+    options: &Options,
+    input: &mut impl BufRead,
+    output: &mut impl Write,
+) -> io::Result<()> {
+    let mut tally = Tally::default();
+    while let Some(sheet) = read_frame(input)? {
+        tally.count(&sheet, &judge(&sheet, options.room));
+    }
+    write!(output, "{tally}")
+}
+
+fn run(options: &Options) -> io::Result<ExitCode> {
+    let mut input = io::stdin().lock();
+    let mut output = BufWriter::new(io::stdout().lock());
+    match options {
+        Options { count: true, .. } => count_batch(options, &mut input, &mut output)?,
+        Options { batch: true, .. } => answer_batch(options, &mut input, &mut output)?,
+        _ => answer_one(options, &mut input, &mut output)?,
+    }
+    output.flush()?;
+    Ok(ExitCode::SUCCESS)
+}
+
+fn main() -> ExitCode {
+    program::run(USAGE, read_options, run)
+}
