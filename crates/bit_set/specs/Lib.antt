@@ -1,3 +1,5 @@
 pub mod BitSet
 pub mod DigitLaws
 pub mod BitSetLaws
+pub mod Collected
+pub mod CollectedLaws

@@ -2,3 +2,4 @@ pub mod Choice
 pub mod ChoiceLaws
 pub mod Text
 pub mod TextLaws
+pub mod ListLaws

@@ -1,0 +1,28 @@
+-- The state of a fresh clause.
+use Prim.Native.Nat.{ℕ, _+_}
+use lib.Dec.{ltb}
+use Rattle.notation.specs.Choice.{if_then_else_}
+use Rattle.sizes.specs.Sizes.{counters}
+use Rattle.bit_set.specs.BitSet.{emptySet}
+use Rattle.allocator_state.specs.declared.Counters.{Counters}
+
+abbrev pub freshCounters : Counters
+freshCounters =
+    record {
+      «arg_c» = 1;
+      «temp_lb» = 1;
+      «perm_lb» = 1;
+      arity = 0;
+      «in_tail_position» = 0;
+      records = 0;
+      «events_seen» = 0;
+      «freed_registers» = 0;
+      «first_freed_slot» = 0;
+      «freed_slots» = 0;
+      «open_branches» = 0;
+      «in_use» = emptySet;
+    }
+
+-- a counter's next number; it runs to 64 and stays there
+unfoldable pub counterAfter : ℕ → ℕ
+counterAfter n = if ltb n counters then n + 1 else counters

@@ -1,0 +1,2 @@
+pub mod BranchStack
+pub mod BranchStackLaws

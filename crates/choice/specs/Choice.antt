@@ -1,0 +1,52 @@
+-- The rules by which a register is chosen.
+use Prim.Native.Nat.{ℕ, zero, suc, _-_}
+use mathlib.Core.Bool.{Bool, not, _&&_, _||_}
+use mathlib.Core.List.{List, [], _∷_, map}
+use lib.Dec.{leb}
+use Rattle.notation.specs.Choice.{if_then_else_}
+use Rattle.sizes.specs.Sizes.{registers}
+use Rattle.bit_set.specs.BitSet.{has}
+use Rattle.allocator_state.specs.declared.Counters.{Counters}
+use Rattle.temp_var_data.specs.Uses.{registerOf}
+use Rattle.choice.specs.declared.Chosen.{Chosen}
+use Rattle.choice.specs.declared.Chosen.the-variants.{Register, NoRegister}
+
+-- In use: from arg_c to arity, or in the set.
+unfoldable pub inUse : Counters → ℕ → Bool
+inUse c r = leb (c .«arg_c») r && leb r (c .arity) || has (c .«in_use») r
+
+-- the first of some registers that passes a test
+unfoldable pub first : (ℕ → Bool) → List ℕ → Chosen
+first test [] = NoRegister
+first test (r ∷ rs) = if test r then Register r else first test rs
+
+-- the registers from one on, rising
+unfoldable pub upwards : ℕ → ℕ → List ℕ
+upwards r zero = []
+upwards r (suc n) = r ∷ upwards (suc r) n
+
+unfoldable pub registersFrom : ℕ → List ℕ
+registersFrom r = upwards r (suc registers - r)
+
+-- A use-set register not in use wins, in list order.
+unfoldable pub firstUnused : Counters → List ℕ → Chosen
+firstUnused c useSet = first (λ r. not (inUse c r)) (map registerOf useSet)
+
+-- Otherwise the least register from temp_lb that is not in use and is not to be avoided.
+unfoldable pub isFree : Counters → ℕ → ℕ → Bool
+isFree c avoided r = not (inUse c r) && not (has avoided r)
+
+unfoldable pub leastFree : Counters → ℕ → Chosen
+leastFree c avoided = first (isFree c avoided) (registersFrom (c .«temp_lb»))
+
+unfoldable pub otherwise : Chosen → Chosen → Chosen
+otherwise (Register r) other = Register r
+otherwise NoRegister other = other
+
+-- the choice for a variable, by its use set and what it avoids: no-use, and conflict in alloc_with_ca
+unfoldable pub chosen : Counters → List ℕ → ℕ → Chosen
+chosen c useSet avoided = otherwise (firstUnused c useSet) (leastFree c avoided)
+
+-- The search for a non-variable tests only the set.
+unfoldable pub leastOutside : Counters → Chosen
+leastOutside c = first (λ r. not (has (c .«in_use») r)) (registersFrom (c .«temp_lb»))

@@ -1,0 +1,128 @@
+-- The choice of a register for a variable by its sets, and an argument's register emptied of another variable's value.
+use Prim.Native.Nat.{ℕ, _%_}
+use mathlib.Core.Bool.{Bool, true, false, not}
+use mathlib.Core.List.{List}
+use lib.Dec.{eqb, leb}
+use lib.ListN.{getD}
+use Rattle.notation.specs.Choice.{if_then_else_}
+use Rattle.sizes.specs.Sizes.{variables}
+use Rattle.bit_set.specs.BitSet.{inserted, union}
+use Rattle.registers.specs.declared.RegType.{RegType}
+use Rattle.registers.specs.declared.RegType.the-variants.{Temp, Perm}
+use Rattle.instructions.specs.declared.Instruction.the-variants.{GetVariable}
+use Rattle.code_deque.specs.declared.CodeDeque.{CodeDeque}
+use Rattle.code_deque.specs.CodeDeque.{pushed}
+use Rattle.variable_records.specs.Records.{placeOf, placedAt}
+use Rattle.variable_records.specs.Rows.{recordAt, recordPut}
+use Rattle.shallow_temp_mappings.specs.Mappings.{unmapped, mappedAt, mappedWith}
+use Rattle.temp_var_data.specs.Uses.{usesOf, containsUse, useCode, lastContext}
+use Rattle.allocator_state.specs.declared.Counters.{Counters}
+use Rattle.choice.specs.declared.Chosen.{Chosen}
+use Rattle.choice.specs.declared.Chosen.the-variants.{Register, NoRegister}
+use Rattle.choice.specs.Choice.{chosen}
+use Rattle.evacuation.specs.declared.Hint.{Hint}
+use Rattle.evacuation.specs.declared.Hint.the-variants.{Stays, Moves, NoRegister as Nowhere}
+use Rattle.evacuation.specs.declared.Reached.{Reached}
+
+-- a variable's set; a number of no variable is taken modulo the number of variables
+abbrev pub setAt : List ℕ → ℕ → ℕ
+setAt sets v = getD sets (v % variables) 0
+
+-- with no-use to be avoided
+abbrev pub allocWithCr : Counters → List ℕ → List ℕ → List ℕ → ℕ → Chosen
+allocWithCr c useSets useCounts noUse v = chosen c (usesOf useSets useCounts v) (setAt noUse v)
+
+-- with no-use and conflict to be avoided
+abbrev pub allocWithCa : Counters → List ℕ → List ℕ → List ℕ → List ℕ → ℕ → Chosen
+allocWithCa c useSets useCounts noUse conflict v =
+    chosen c (usesOf useSets useCounts v) (union (setAt noUse v) (setAt conflict v))
+
+abbrev pub isTempPlace : RegType → Bool
+isTempPlace (Temp r) = true
+isTempPlace (Perm r) = false
+
+unfoldable pub isTemp : List ℕ → ℕ → Bool
+isTemp records v = isTempPlace (placeOf (recordAt records v))
+
+-- ---- Evacuation
+
+-- the use sets and what follows from them
+pub record Sets : Type 0 where
+  pub useSets : List ℕ
+  pub useCounts : List ℕ
+  pub noUse : List ℕ
+  pub conflict : List ℕ
+
+abbrev pub sets : List ℕ → List ℕ → List ℕ → List ℕ → Sets
+sets useSets useCounts noUse conflict =
+    record { useSets = useSets; useCounts = useCounts; noUse = noUse; conflict = conflict }
+
+abbrev pub hintTo : ℕ → Chosen → Hint
+hintTo v (Register r) = Moves v r
+hintTo v NoRegister = Nowhere
+
+-- the variable mapped to the argument's register has to leave it if it is a temporary and (Last(chunk), k) is not in its
+-- use set; it goes where alloc_with_ca says
+unfoldable pub hint : Counters → List ℕ → List ℕ → Sets → ℕ → Hint
+hint c records mappings s chunk =
+    let k = c .«arg_c» in
+    let v = mappedAt mappings k in
+    if leb variables v then Stays
+    else if not (isTemp records v) then Stays
+    else if containsUse (usesOf (s .useSets) (s .useCounts) v) (useCode (lastContext chunk) k) then Stays
+    else hintTo v (allocWithCa c (s .useSets) (s .useCounts) (s .noUse) (s .conflict) v)
+
+-- what an evacuation leaves: the tables that it may change, and how far the event has come
+pub record Evacuation : Type 0 where
+  pub records : List ℕ
+  pub mappings : List ℕ
+  pub reached : Reached
+
+abbrev pub evacuation : List ℕ → List ℕ → Reached → Evacuation
+evacuation records mappings reached = record { records = records; mappings = mappings; reached = reached }
+
+abbrev pub withInUse : Counters → ℕ → Counters
+withInUse c set =
+    record {
+      «arg_c» = c .«arg_c»;
+      «temp_lb» = c .«temp_lb»;
+      «perm_lb» = c .«perm_lb»;
+      arity = c .arity;
+      «in_tail_position» = c .«in_tail_position»;
+      records = c .records;
+      «events_seen» = c .«events_seen»;
+      «freed_registers» = c .«freed_registers»;
+      «first_freed_slot» = c .«first_freed_slot»;
+      «freed_slots» = c .«freed_slots»;
+      «open_branches» = c .«open_branches»;
+      «in_use» = set;
+    }
+
+-- the variable's value is moved: its mapping, its record, the in-use set, and one instruction
+unfoldable pub movedTo : Counters → List ℕ → List ℕ → CodeDeque → ℕ → ℕ → Evacuation
+movedTo c records mappings code v r =
+    evacuation
+    (recordPut records v (placedAt (recordAt records v) r))
+    (mappedWith (mappedWith mappings (c .«arg_c») unmapped) r v)
+    (record {
+      counters = withInUse c (inserted (c .«in_use») r);
+      code = pushed code (GetVariable (Temp r) (c .«arg_c»));
+      refusal = 0;
+    })
+
+-- an event that goes on, and one for which no register up to 63 meets the search rule
+abbrev pub goingOn : Counters → CodeDeque → Reached
+goingOn c code = record { counters = c; code = code; refusal = 0 }
+
+abbrev pub noRegister : Counters → CodeDeque → Reached
+noRegister c code = record { counters = c; code = code; refusal = 5 }
+
+-- an evacuation that chooses k itself changes and prints nothing
+unfoldable pub evacuatedBy : Hint → Counters → List ℕ → List ℕ → CodeDeque → Evacuation
+evacuatedBy Stays c records mappings code = evacuation records mappings (goingOn c code)
+evacuatedBy Nowhere c records mappings code = evacuation records mappings (noRegister c code)
+evacuatedBy (Moves v r) c records mappings code =
+    if eqb r (c .«arg_c») then evacuation records mappings (goingOn c code) else movedTo c records mappings code v r
+
+unfoldable pub evacuated : Counters → List ℕ → List ℕ → Sets → ℕ → CodeDeque → Evacuation
+evacuated c records mappings s chunk code = evacuatedBy (hint c records mappings s chunk) c records mappings code

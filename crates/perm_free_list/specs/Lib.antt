@@ -1,0 +1,3 @@
+pub mod PermFreeList
+pub mod PermFreeListLaws
+pub mod TableLaws

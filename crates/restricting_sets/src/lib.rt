@@ -1,0 +1,158 @@
+// The restricting sets of all temporaries: which registers the uses of others keep from each, and its conflict set.
+ghost use mathlib.Core.Path.{_≡_};
+ghost use Rattle.temp_var_data.specs.Uses.{lastContext};
+ghost use Rattle.restricting_sets.specs.Restricting.{chunkOf, isTemporary, beforeOrFree, noUseOf, conflictAt, Populated};
+ghost use Rattle.restricting_sets.specs.StepLaws.{withUse, withUses};
+use bit_set::BitSet;
+use sizes::LAST_CHUNK;
+use sizes::VARIABLES;
+use temp_var_data::UseCounts;
+use temp_var_data::UseSets;
+
+// In the place of a chunk: the variable is no temporary.
+pub const NO_CHUNK: u32 = LAST_CHUNK + 1;
+
+// Of each variable its chunk, or a number that is none.
+pub type Chunks = [u32; VARIABLES];
+
+// Of each variable a set.
+pub type Sets = [BitSet; VARIABLES];
+
+// The chunk of `v`, or a number that is none.
+fn chunk_of(chunks: &Chunks, v: u32) -> u32
+    ensures { λ r. ⌜ r ≡ chunkOf (now (chunks .entry)) v ⌝ }
+{
+    let entries = &chunks[..];
+    let row = v as usize;
+    if entries.len() <= row {
+        return NO_CHUNK;
+    }
+    entries[row]
+}
+
+// Whether `v` is a temporary.
+fn is_temporary(chunks: &Chunks, v: u32) -> bool
+    ensures { λ r. ⌜ r ≡ isTemporary (now (chunks .entry)) v ⌝ }
+{
+    sizes::is_chunk(chunk_of(chunks, v))
+}
+
+// Whether `u` comes before `v`, or `v` does not use `reg`: the Rust puts all use sets aside and each back after its turn,
+// so that at the turn of `u` nothing is seen of what a later `v` uses.
+fn before_or_free(use_sets: &UseSets, use_counts: &UseCounts, u: u32, v: u32, reg: u32) -> bool
+    ensures { λ r. ⌜ r ≡ beforeOrFree (now («use_sets» .entry)) (now («use_counts» .entry)) u v reg ⌝ }
+{
+    if u < v {
+        return true;
+    }
+    !temp_var_data::uses_reg(use_sets, use_counts, v, reg)
+}
+
+// The no-use set of `v`, a temporary of the chunk `chunk`, after one use of `u`.
+fn with_use(
+    no_use_set: BitSet,
+    use_sets: &UseSets,
+    use_counts: &UseCounts,
+    u: u32,
+    v: u32,
+    chunk: u32,
+    code: u32,
+) -> BitSet
+    ensures { λ r. ⌜ r ≡ withUse (lastContext chunk) (beforeOrFree (now («use_sets» .entry)) (now («use_counts» .entry)) u v) «no_use_set» code ⌝ }
+{
+    let reg = temp_var_data::register_of(code);
+    if temp_var_data::last_use(chunk, reg) != code {
+        return no_use_set;
+    }
+    if !before_or_free(use_sets, use_counts, u, v, reg) {
+        return no_use_set;
+    }
+    bit_set::insert(no_use_set, reg)
+}
+
+// The no-use set of `v` after the uses of `u`.
+fn with_uses(
+    no_use_set: BitSet,
+    use_sets: &UseSets,
+    use_counts: &UseCounts,
+    chunks: &Chunks,
+    u: u32,
+    v: u32,
+) -> BitSet
+    ensures { λ r. ⌜ r ≡ withUses (now («use_sets» .entry)) (now («use_counts» .entry)) (now (chunks .entry)) v «no_use_set» u ⌝ }
+{
+    if u == v {
+        return no_use_set;
+    }
+    if !is_temporary(chunks, u) {
+        return no_use_set;
+    }
+    let chunk = chunk_of(chunks, v);
+    let use_set = temp_var_data::uses_of(use_sets, use_counts, u);
+    let mut set = no_use_set;
+    let mut i = 0;
+    while i < use_set.len() {
+        set = with_use(set, use_sets, use_counts, u, v, chunk, use_set[i]);
+        i += 1;
+    }
+    set
+}
+
+// The no-use set of `v` after the uses of all; what it was where `v` is no temporary.
+fn no_use_of(
+    no_use_set: BitSet,
+    use_sets: &UseSets,
+    use_counts: &UseCounts,
+    chunks: &Chunks,
+    v: u32,
+) -> BitSet
+    ensures { λ r. ⌜ r ≡ noUseOf (now («use_sets» .entry)) (now («use_counts» .entry)) (now (chunks .entry)) «no_use_set» v ⌝ }
+{
+    if !is_temporary(chunks, v) {
+        return no_use_set;
+    }
+    let mut set = no_use_set;
+    let mut u: u32 = 0;
+    while u < VARIABLES as u32 {
+        set = with_uses(set, use_sets, use_counts, chunks, u, v);
+        u += 1;
+    }
+    set
+}
+
+// The conflict set of `v`; what it was where `v` is no temporary.
+fn conflict_of(
+    conflict_set: BitSet,
+    use_sets: &UseSets,
+    use_counts: &UseCounts,
+    chunks: &Chunks,
+    v: u32,
+) -> BitSet
+    ensures { λ r. ⌜ r ≡ conflictAt (now («use_sets» .entry)) (now («use_counts» .entry)) (now (chunks .entry)) «conflict_set» v ⌝ }
+{
+    if !is_temporary(chunks, v) {
+        return conflict_set;
+    }
+    temp_var_data::populate_conflict_set(use_sets, use_counts, v)
+}
+
+// The no-use and the conflict sets of all temporaries; those of other variables stay.
+pub fn populate_restricting_sets(
+    no_use: &mut Sets,
+    conflict: &mut Sets,
+    use_sets: &UseSets,
+    use_counts: &UseCounts,
+    chunks: &Chunks,
+)
+    ensures { λ r. ⌜ Populated (now («use_sets» .entry)) (now («use_counts» .entry)) (now (chunks .entry)) (now («no_use» .entry)) (now (conflict .entry)) (now («no_use» .exit)) (now (conflict .exit)) ⌝ }
+{
+    let no_use_sets = &mut no_use[..];
+    let conflict_sets = &mut conflict[..];
+    let mut v: u32 = 0;
+    while v < VARIABLES as u32 {
+        let row = v as usize;
+        no_use_sets[row] = no_use_of(no_use_sets[row], use_sets, use_counts, chunks, v);
+        conflict_sets[row] = conflict_of(conflict_sets[row], use_sets, use_counts, chunks, v);
+        v += 1;
+    }
+}

@@ -1,0 +1,42 @@
+-- The instruction that a fact or a query needs for a variable, under the Rust's names.
+use Prim.Native.Nat.{ℕ}
+use Rattle.registers.specs.declared.RegType.{RegType}
+use Rattle.registers.specs.declared.RegType.the-variants.{Temp, Perm}
+use Rattle.instructions.specs.declared.Instruction.{Instruction}
+use Rattle.instructions.specs.declared.Instruction.the-variants.{GetVariable, GetValue, PutVariable, PutValue, PutUnsafeValue, SetVariable, SetValue, SetLocalValue, UnifyVariable, UnifyValue, UnifyLocalValue}
+use Rattle.targets.specs.declared.Target.{Target}
+use Rattle.targets.specs.declared.Target.the-variants.{Fact, Query}
+
+-- ---- For argument k
+
+abbrev pub argumentToVariable : Target → RegType → ℕ → Instruction
+argumentToVariable Fact r k = GetVariable r k
+argumentToVariable Query r k = PutVariable r k
+
+abbrev pub argumentToValue : Target → RegType → ℕ → Instruction
+argumentToValue Fact r k = GetValue r k
+argumentToValue Query r k = PutValue r k
+
+-- of a variable that is not safe yet: a query's slot has an instruction of its own
+abbrev pub unsafeArgumentToValue : Target → RegType → ℕ → Instruction
+unsafeArgumentToValue Fact r k = GetValue r k
+unsafeArgumentToValue Query (Perm p) k = PutUnsafeValue p k
+unsafeArgumentToValue Query (Temp r) k = PutValue (Temp r) k
+
+-- the same for both
+abbrev pub moveToRegister : Target → RegType → ℕ → Instruction
+moveToRegister target r k = GetVariable r k
+
+-- ---- For a subterm
+
+abbrev pub subtermToVariable : Target → RegType → Instruction
+subtermToVariable Fact r = UnifyVariable r
+subtermToVariable Query r = SetVariable r
+
+abbrev pub subtermToValue : Target → RegType → Instruction
+subtermToValue Fact r = UnifyValue r
+subtermToValue Query r = SetValue r
+
+abbrev pub unsafeSubtermToValue : Target → RegType → Instruction
+unsafeSubtermToValue Fact r = UnifyLocalValue r
+unsafeSubtermToValue Query r = SetLocalValue r

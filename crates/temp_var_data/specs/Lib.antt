@@ -1,0 +1,7 @@
+pub mod TestLaws
+pub mod Lists
+pub mod ListLaws
+pub mod Uses
+pub mod UsesLaws
+pub mod AddedLaws
+pub mod ConflictLaws
