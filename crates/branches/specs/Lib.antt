@@ -1,0 +1,4 @@
+pub mod Lists
+pub mod ListLaws
+pub mod Branches
+pub mod BranchesLaws
