@@ -1,4 +1,5 @@
--- Laws of branches: the search for a temporary, one variable at a time, and what is done for the members of a set only.
+-- Laws of branches: the search for a temporary, a variable at a time; what is done for the members of a set only; and a
+-- close or take that is not refused.
 use Prim.Native.Nat.{ℕ, _+_, _-_, _≤_, _<_}
 use mathlib.Core.Path.{_≡_, refl, ap, _∙_}
 use mathlib.Core.Bool.{true, false, _&&_, _||_}
