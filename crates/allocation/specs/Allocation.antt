@@ -5,6 +5,7 @@ use lib.Dec.{ltb}
 use lib.ListN.{getD}
 use Rattle.notation.specs.Choice.{if_then_else_}
 use Rattle.sizes.specs.Sizes.{registers, freedRegisters, freedSlots}
+use Rattle.refusals.specs.Refusals.{accepted, refusedSlot}
 use Rattle.bit_set.specs.BitSet.{inserted}
 use Rattle.variable_records.specs.declared.VarSafetyStatus.the-variants.{Needed}
 use Rattle.variable_records.specs.declared.PermVarAllocation.the-variants.{Done}
@@ -81,12 +82,12 @@ abbrev pub placement : List ℕ → Placed → Placement
 placement records placed = record { records = records; placed = placed }
 
 abbrev pub placedIn : Counters → ℕ → Placed
-placedIn c place = record { counters = c; place = place; refusal = 0 }
+placedIn c place = record { counters = c; place = place; refusal = accepted }
 
 -- a new slot, unless the next is 64: refusal 6
 unfoldable pub newSlot : Counters → List ℕ → ℕ → Placement
 newSlot c records v =
-    if ltb registers (c .«perm_lb») then placement records (record { counters = c; place = 0; refusal = 6 })
+    if ltb registers (c .«perm_lb») then placement records (record { counters = c; place = 0; refusal = refusedSlot })
     else
     placement (slotGiven records v (c .«perm_lb»)) (placedIn (withPermLb (counterAfter (c .«perm_lb»)) c) (c .«perm_lb»))
 

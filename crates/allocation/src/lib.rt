@@ -156,9 +156,6 @@ pub struct Placed {
     pub refusal: u32,
 }
 
-// No freed slot qualifies and the next new slot is past the last.
-const NO_SLOT: u32 = 6;
-
 // A new slot.
 fn new_slot(counters: Counters, records: &mut Records, v: u32) -> Placed
     ensures { λ r. ⌜ placement (now (records .exit)) r ≡ newSlot counters (now (records .entry)) v ⌝ }
@@ -168,7 +165,7 @@ fn new_slot(counters: Counters, records: &mut Records, v: u32) -> Placed
         return Placed {
             counters,
             place: 0,
-            refusal: NO_SLOT,
+            refusal: refusals::SLOT,
         };
     }
     give_slot(records, v, slot);
@@ -177,7 +174,7 @@ fn new_slot(counters: Counters, records: &mut Records, v: u32) -> Placed
     Placed {
         counters: taken,
         place: slot,
-        refusal: 0,
+        refusal: refusals::ACCEPTED,
     }
 }
 
@@ -206,7 +203,7 @@ pub fn alloc_perm_var(
         return Placed {
             counters: left,
             place: slot,
-            refusal: 0,
+            refusal: refusals::ACCEPTED,
         };
     }
     new_slot(left, records, v)

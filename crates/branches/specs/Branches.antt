@@ -7,6 +7,7 @@ use lib.Dec.{eqb, leb, ltb}
 use lib.ListN.{length}
 use Rattle.notation.specs.Choice.{if_then_else_}
 use Rattle.sizes.specs.Sizes.{openBranches, counts}
+use Rattle.refusals.specs.Refusals.{accepted, refusedStop, refusedFull, refusedUnreachable}
 use Rattle.bit_set.specs.BitSet.{has, emptySet, inserted, union}
 use Rattle.forms.specs.Forms.{defaultBranch}
 use Rattle.forms.specs.declared.Branch.{Branch}
@@ -34,32 +35,32 @@ use Rattle.branches.specs.Lists.{numbersFrom, members, each}
 -- ---- The refusal of each answer, by its number; 0 where there is none
 
 abbrev pub openRefusal : Opened → ℕ
-openRefusal (Open branches) = 0
-openRefusal Full = 7
+openRefusal (Open branches) = accepted
+openRefusal Full = refusedFull
 
 abbrev pub armRefusal : Advanced → ℕ
-armRefusal NextArm = 0
-armRefusal NoneToAdvance = 4
-armRefusal ArmsFull = 7
+armRefusal NextArm = accepted
+armRefusal NoneToAdvance = refusedStop
+armRefusal ArmsFull = refusedFull
 
 abbrev pub recordRefusal : Recorded → ℕ
-recordRefusal Well = 0
-recordRefusal PastArms = 4
+recordRefusal Well = accepted
+recordRefusal PastArms = refusedStop
 
 abbrev pub takeRefusal : Taken → ℕ
-takeRefusal Took = 0
-takeRefusal NoneToTake = 4
-takeRefusal TakesTemporary = 8
+takeRefusal Took = accepted
+takeRefusal NoneToTake = refusedStop
+takeRefusal TakesTemporary = refusedUnreachable
 
 abbrev pub closeRefusal : Popped → ℕ
-closeRefusal (Left branches) = 0
-closeRefusal TooDeep = 4
-closeRefusal ClosesTemporary = 4
-closeRefusal PastOuterArms = 4
+closeRefusal (Left branches) = accepted
+closeRefusal TooDeep = refusedStop
+closeRefusal ClosesTemporary = refusedStop
+closeRefusal PastOuterArms = refusedStop
 
 -- a refusal leaves a table as it was
 abbrev pub unlessRefused : ℕ → List ℕ → List ℕ → List ℕ
-unlessRefused refusal before after = if eqb refusal 0 then after else before
+unlessRefused refusal before after = if eqb refusal accepted then after else before
 
 -- ---- The innermost open branch
 

@@ -6,6 +6,7 @@ use lib.Dec.{eqb, leb}
 use lib.ListN.{getD}
 use Rattle.notation.specs.Choice.{if_then_else_}
 use Rattle.sizes.specs.Sizes.{variables}
+use Rattle.refusals.specs.Refusals.{accepted, refusedRegister}
 use Rattle.bit_set.specs.BitSet.{inserted, union}
 use Rattle.registers.specs.declared.RegType.{RegType}
 use Rattle.registers.specs.declared.RegType.the-variants.{Temp, Perm}
@@ -17,6 +18,7 @@ use Rattle.variable_records.specs.Rows.{recordAt, recordPut}
 use Rattle.shallow_temp_mappings.specs.Mappings.{unmapped, mappedAt, mappedWith}
 use Rattle.temp_var_data.specs.Uses.{usesOf, containsUse, useCode, lastContext}
 use Rattle.allocator_state.specs.declared.Counters.{Counters}
+use Rattle.allocator_state.specs.Counters.{withInUse}
 use Rattle.choice.specs.declared.Chosen.{Chosen}
 use Rattle.choice.specs.declared.Chosen.the-variants.{Register, NoRegister}
 use Rattle.choice.specs.Choice.{chosen}
@@ -81,23 +83,6 @@ pub record Evacuation : Type 0 where
 abbrev pub evacuation : List ℕ → List ℕ → Reached → Evacuation
 evacuation records mappings reached = record { records = records; mappings = mappings; reached = reached }
 
-abbrev pub withInUse : Counters → ℕ → Counters
-withInUse c set =
-    record {
-      «arg_c» = c .«arg_c»;
-      «temp_lb» = c .«temp_lb»;
-      «perm_lb» = c .«perm_lb»;
-      arity = c .arity;
-      «in_tail_position» = c .«in_tail_position»;
-      records = c .records;
-      «events_seen» = c .«events_seen»;
-      «freed_registers» = c .«freed_registers»;
-      «first_freed_slot» = c .«first_freed_slot»;
-      «freed_slots» = c .«freed_slots»;
-      «open_branches» = c .«open_branches»;
-      «in_use» = set;
-    }
-
 -- the variable's value is moved: its mapping, its record, the in-use set, and one instruction
 unfoldable pub movedTo : Counters → List ℕ → List ℕ → CodeDeque → ℕ → ℕ → Evacuation
 movedTo c records mappings code v r =
@@ -105,17 +90,17 @@ movedTo c records mappings code v r =
     (recordPut records v (placedAt (recordAt records v) r))
     (mappedWith (mappedWith mappings (c .«arg_c») unmapped) r v)
     (record {
-      counters = withInUse c (inserted (c .«in_use») r);
+      counters = withInUse (inserted (c .«in_use») r) c;
       code = pushed code (GetVariable (Temp r) (c .«arg_c»));
-      refusal = 0;
+      refusal = accepted;
     })
 
 -- an event that goes on, and one for which no register up to 63 meets the search rule
 abbrev pub goingOn : Counters → CodeDeque → Reached
-goingOn c code = record { counters = c; code = code; refusal = 0 }
+goingOn c code = record { counters = c; code = code; refusal = accepted }
 
 abbrev pub noRegister : Counters → CodeDeque → Reached
-noRegister c code = record { counters = c; code = code; refusal = 5 }
+noRegister c code = record { counters = c; code = code; refusal = refusedRegister }
 
 -- an evacuation that chooses k itself changes and prints nothing
 unfoldable pub evacuatedBy : Hint → Counters → List ℕ → List ℕ → CodeDeque → Evacuation

@@ -113,15 +113,12 @@ pub fn alloc_in_last_goal_hint(
     }
 }
 
-// How far an event has come: its counters and instructions, and its refusal, 0 while there is none.
+// How far an event has come: its counters and instructions, and its refusal, none as yet where it goes on.
 pub struct Reached {
     pub counters: Counters,
     pub code: CodeDeque,
     pub refusal: u32,
 }
-
-// No register up to the last meets the search rule.
-const NO_REGISTER: u32 = 5;
 
 // Moves a variable's value from the argument's register to another.
 fn move_to(
@@ -144,7 +141,7 @@ fn move_to(
     Reached {
         counters: moved,
         code: code_deque::push_back(code, Instruction::GetVariable(RegType::Temp(r), k)),
-        refusal: 0,
+        refusal: refusals::ACCEPTED,
     }
 }
 
@@ -177,7 +174,7 @@ pub fn evacuate_arg(
         Hint::NoRegister => Reached {
             counters,
             code,
-            refusal: NO_REGISTER,
+            refusal: refusals::REGISTER,
         },
         Hint::Moves(v, r) => {
             if r == counters.arg_c {
@@ -195,6 +192,6 @@ pub fn going(counters: Counters, code: CodeDeque) -> Reached
     Reached {
         counters,
         code,
-        refusal: 0,
+        refusal: refusals::ACCEPTED,
     }
 }

@@ -4,6 +4,7 @@ use mathlib.Core.List.{List}
 use lib.Dec.{leb, ltb}
 use Rattle.notation.specs.Choice.{if_then_else_}
 use Rattle.sizes.specs.Sizes.{freedSlots}
+use Rattle.refusals.specs.Refusals.{accepted, refusedFull}
 use Rattle.variable_records.specs.declared.PermVarAllocation.the-variants.{Pending}
 use Rattle.variable_records.specs.declared.VarAlloc.{VarAlloc}
 use Rattle.variable_records.specs.declared.VarAlloc.the-variants.{Temp, Perm}
@@ -24,12 +25,12 @@ abbrev pub release : List ℕ → Released → Release
 release list released = record { list = list; released = released }
 
 abbrev pub kept : Counters → Released
-kept c = record { counters = c; refusal = 0 }
+kept c = record { counters = c; refusal = accepted }
 
 -- a variable joins the freed-slot queue, unless that is full: refusal 7
 unfoldable pub pushedFree : Counters → List ℕ → ℕ → ℕ → Release
 pushedFree c list chunk v =
-    if leb freedSlots (c .«freed_slots») then release list (record { counters = c; refusal = 7 })
+    if leb freedSlots (c .«freed_slots») then release list (record { counters = c; refusal = refusedFull })
     else
     release
     (entryPut list (c .«first_freed_slot») (c .«freed_slots») (record { chunk = chunk; variable = v }))

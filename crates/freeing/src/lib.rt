@@ -11,9 +11,6 @@ use variable_records::Records;
 use variable_records::VarAlloc;
 use variable_records::VariableRecord;
 
-// A table is full.
-const FULL: u32 = 7;
-
 // The counters afterwards, or a refusal, 0 where there is none.
 pub struct Released {
     pub counters: Counters,
@@ -33,7 +30,7 @@ fn add_perm_to_free_list(
     if FREED_SLOTS as u32 <= count {
         return Released {
             counters,
-            refusal: FULL,
+            refusal: refusals::FULL,
         };
     }
     perm_free_list::put_entry(
@@ -46,7 +43,7 @@ fn add_perm_to_free_list(
     pushed.freed_slots = count + 1;
     Released {
         counters: pushed,
-        refusal: 0,
+        refusal: refusals::ACCEPTED,
     }
 }
 
@@ -70,7 +67,7 @@ pub fn free_var(
             to_perm_var_num: _,
         } => Released {
             counters,
-            refusal: 0,
+            refusal: refusals::ACCEPTED,
         },
         VarAlloc::Perm(slot, _) => {
             let pending = VarAlloc::Perm(slot, PermVarAllocation::Pending);
@@ -107,7 +104,7 @@ pub fn count_or_free(
         variable_records::store(records, v, counted(variable, variable.running_count + 1));
         return Released {
             counters,
-            refusal: 0,
+            refusal: refusals::ACCEPTED,
         };
     }
     free_var(counters, records, list, chunk, v)

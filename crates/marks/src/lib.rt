@@ -26,9 +26,6 @@ pub struct RegPlaced {
     pub place: u32,
 }
 
-// No register up to the last meets the search rule.
-const NO_REGISTER: u32 = 5;
-
 // The register that was chosen, or the refusal that there is none.
 fn chosen_or_refused(reached: Reached, chosen: Chosen) -> RegPlaced
     ensures { λ r. ⌜ r ≡ chosenOrRefused reached chosen ⌝ }
@@ -41,7 +38,7 @@ fn chosen_or_refused(reached: Reached, chosen: Chosen) -> RegPlaced
             reached: Reached {
                 counters,
                 code,
-                refusal: NO_REGISTER,
+                refusal: refusals::REGISTER,
             },
             place: 0,
         },

@@ -5,6 +5,7 @@ use mathlib.Core.List.{List}
 use lib.Dec.{eqb, leb, ltb}
 use Rattle.notation.specs.Choice.{if_then_else_}
 use Rattle.sizes.specs.Sizes.{variables}
+use Rattle.refusals.specs.Refusals.{accepted, refusedUnreachable}
 use Rattle.forms.specs.Forms.{chunkNum}
 use Rattle.forms.specs.declared.Branch.{Branch}
 use Rattle.forms.specs.declared.GenContext.{GenContext}
@@ -45,20 +46,20 @@ abbrev pub safeStep : List ℕ → ℕ → SafeStep
 safeStep records refusal = record { records = records; refusal = refusal }
 
 abbrev pub safeKept : List ℕ → ℕ → MarkedSafe → SafeStep
-safeKept records v (Safe variable) = safeStep (recordPut records v variable) 0
-safeKept records v FromTemporary = safeStep records 0
-safeKept records v Stopped = safeStep records 8
+safeKept records v (Safe variable) = safeStep (recordPut records v variable) accepted
+safeKept records v FromTemporary = safeStep records accepted
+safeKept records v Stopped = safeStep records refusedUnreachable
 
 -- the temporary in the argument's register remembers the permanent variable that it is moved to
 unfoldable pub remembered : List ℕ → List ℕ → ℕ → ℕ → SafeStep
 remembered records mappings k v =
-    if leb variables (mappedAt mappings k) then safeStep records 0
+    if leb variables (mappedAt mappings k) then safeStep records accepted
     else safeKept records (mappedAt mappings k) (rememberedPerm (recordAt records (mappedAt mappings k)) v)
 
 abbrev pub safeMadeBy : MarkedSafe → List ℕ → List ℕ → ℕ → ℕ → SafeStep
-safeMadeBy (Safe variable) records mappings k v = safeStep (recordPut records v variable) 0
+safeMadeBy (Safe variable) records mappings k v = safeStep (recordPut records v variable) accepted
 safeMadeBy FromTemporary records mappings k v = remembered records mappings k v
-safeMadeBy Stopped records mappings k v = safeStep records 8
+safeMadeBy Stopped records mappings k v = safeStep records refusedUnreachable
 
 unfoldable pub safeMade : List ℕ → List ℕ → ℕ → ℕ → Level → GenContext → Branch → SafeStep
 safeMade records mappings k v level context branch =
@@ -83,8 +84,8 @@ instructedAfter c code refusal instruction =
 
 abbrev pub valueKept : Counters → List ℕ → ℕ → Valued → CodeDeque → Step
 valueKept c records v (Value variable instruction) code =
-    step (recordPut records v variable) (instructedAfter c code 0 instruction)
-valueKept c records v Halted code = step records (stopped c code 8)
+    step (recordPut records v variable) (instructedAfter c code accepted instruction)
+valueKept c records v Halted code = step records (stopped c code refusedUnreachable)
 
 abbrev pub safeInstructed : SafeStep → Counters → CodeDeque → Instruction → Step
 safeInstructed s c code instruction = step (s .records) (instructedAfter c code (s .refusal) instruction)

@@ -36,9 +36,6 @@ use temp_var_data::UseSets;
 use variable_records::Records;
 use variable_records::VarAlloc;
 
-// An arm that the original holds for unreachable.
-const UNREACHABLE: u32 = 8;
-
 // Keeps the record of a variable that has been made safe; the refusal where the original stops.
 fn keep_safe(records: &mut Records, v: u32, safe: MarkedSafe) -> u32
     ensures { λ r. ⌜ safeStep (now (records .exit)) r ≡ safeKept (now (records .entry)) v safe ⌝ }
@@ -46,10 +43,10 @@ fn keep_safe(records: &mut Records, v: u32, safe: MarkedSafe) -> u32
     match safe {
         MarkedSafe::Safe(variable) => {
             variable_records::store(records, v, variable);
-            0
+            refusals::ACCEPTED
         }
-        MarkedSafe::FromTemporary => 0,
-        MarkedSafe::Stopped => UNREACHABLE,
+        MarkedSafe::FromTemporary => refusals::ACCEPTED,
+        MarkedSafe::Stopped => refusals::UNREACHABLE,
     }
 }
 
@@ -59,7 +56,7 @@ fn remember(records: &mut Records, mappings: &Mappings, k: u32, v: u32) -> u32
 {
     let temporary = shallow_temp_mappings::get(mappings, k);
     if VARIABLES as u32 <= temporary {
-        return 0;
+        return refusals::ACCEPTED;
     }
     let variable = variable_records::load(records, temporary);
     keep_safe(records, temporary, record_marks::remember_perm(variable, v))
@@ -82,7 +79,7 @@ fn mark_safe_var(
     match safe {
         MarkedSafe::FromTemporary => remember(records, mappings, k, v),
         MarkedSafe::Safe(variable) => keep_safe(records, v, MarkedSafe::Safe(variable)),
-        MarkedSafe::Stopped => UNREACHABLE,
+        MarkedSafe::Stopped => refusals::UNREACHABLE,
     }
 }
 
@@ -118,12 +115,12 @@ fn keep_value(
     match valued {
         Valued::Value(variable, instruction) => {
             variable_records::store(records, v, variable);
-            instructed(counters, code, 0, instruction)
+            instructed(counters, code, refusals::ACCEPTED, instruction)
         }
         Valued::Stopped => Reached {
             counters,
             code,
-            refusal: UNREACHABLE,
+            refusal: refusals::UNREACHABLE,
         },
     }
 }
