@@ -30,7 +30,8 @@ use Rattle.branches.specs.declared.Taken.the-variants.{Took, NoneToTake,
 use Rattle.branches.specs.declared.Popped.{Popped}
 use Rattle.branches.specs.declared.Popped.the-variants.{Left, TooDeep, ClosesTemporary, PastOuterArms}
 use Rattle.branches.specs.declared.Guards.{Guards}
-use Rattle.branches.specs.Lists.{numbersFrom, members, each}
+use Rattle.notation.specs.Lists.{numbersFrom}
+use Rattle.branches.specs.Lists.{members, each}
 
 -- ---- The refusal of each answer, by its number; 0 where there is none
 

@@ -10,7 +10,8 @@ use lib.ListN.{length, getD, drop, drop-of-length-le}
 use lib.Seq.{drop-cons}
 use Rattle.notation.specs.Choice.{if_then_else_}
 use Rattle.bit_set.specs.BitSet.{has}
-use Rattle.branches.specs.Lists.{numbersFrom, membersAmong, each}
+use Rattle.notation.specs.Lists.{numbersFrom}
+use Rattle.branches.specs.Lists.{membersAmong, each}
 
 -- ---- The numbers from i on that are below n
 

@@ -1,14 +1,10 @@
--- Words on lists of numbers, and the members of a set as a list.
-use Prim.Native.Nat.{ℕ, zero, suc}
+-- The members of a set as a list, and a step made for each entry of a list.
+use Prim.Native.Nat.{ℕ}
 use mathlib.Core.List.{List, [], _∷_}
 use Rattle.notation.specs.Choice.{if_then_else_}
+use Rattle.notation.specs.Lists.{numbersFrom}
 use Rattle.sizes.specs.Sizes.{variables}
 use Rattle.bit_set.specs.BitSet.{has}
-
--- so many numbers from the first on
-unfoldable pub numbersFrom : ℕ → ℕ → List ℕ
-numbersFrom first zero = []
-numbersFrom first (suc n) = first ∷ numbersFrom (suc first) n
 
 -- those of a list that are members of a set
 unfoldable pub membersAmong : ℕ → List ℕ → List ℕ

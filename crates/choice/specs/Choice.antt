@@ -1,9 +1,10 @@
 -- The rules by which a register is chosen.
-use Prim.Native.Nat.{ℕ, zero, suc, _-_}
+use Prim.Native.Nat.{ℕ, suc, _-_}
 use mathlib.Core.Bool.{Bool, not, _&&_, _||_}
 use mathlib.Core.List.{List, [], _∷_, map}
 use lib.Dec.{leb}
 use Rattle.notation.specs.Choice.{if_then_else_}
+use Rattle.notation.specs.Lists.{numbersFrom}
 use Rattle.sizes.specs.Sizes.{registers}
 use Rattle.bit_set.specs.BitSet.{has}
 use Rattle.allocator_state.specs.declared.Counters.{Counters}
@@ -21,12 +22,8 @@ first test [] = NoRegister
 first test (r ∷ rs) = if test r then Register r else first test rs
 
 -- the registers from one on, rising
-unfoldable pub upwards : ℕ → ℕ → List ℕ
-upwards r zero = []
-upwards r (suc n) = r ∷ upwards (suc r) n
-
 unfoldable pub registersFrom : ℕ → List ℕ
-registersFrom r = upwards r (suc registers - r)
+registersFrom r = numbersFrom r (suc registers - r)
 
 -- A use-set register not in use wins, in list order.
 unfoldable pub firstUnused : Counters → List ℕ → Chosen

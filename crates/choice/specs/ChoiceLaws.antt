@@ -10,6 +10,7 @@ use lib.ListN.{length, getD, drop, drop-of-length-le}
 use lib.Seq.{drop-cons}
 use borrow.Author.Tests.{lt-leb}
 use Rattle.notation.specs.Choice.{if_then_else_}
+use Rattle.notation.specs.Lists.{numbersFrom}
 use Rattle.sizes.specs.Sizes.{registers}
 use Rattle.temp_var_data.specs.Uses.{registerOf}
 use Rattle.choice.specs.declared.Chosen.{Chosen}
@@ -17,7 +18,7 @@ use Rattle.choice.specs.declared.Chosen.the-variants.{Register, NoRegist
 use Rattle.bit_set.specs.BitSet.{has, emptySet}
 use Rattle.bit_set.specs.BitSetLaws.{has-empty}
 use Rattle.allocator_state.specs.declared.Counters.{Counters}
-use Rattle.choice.specs.Choice.{inUse, isFree, first, upwards, registersFrom}
+use Rattle.choice.specs.Choice.{inUse, isFree, first, registersFrom}
 
 -- ---- The first of a list, from entry i on
 
@@ -42,19 +43,19 @@ module _ (test : ℕ → Bool) (uses : List ℕ) (i : ℕ) where
 
 module _ (test : ℕ → Bool) (r : ℕ) where
   pub least-hit : r ≤ registers → test r ≡ true → first test (registersFrom r) ≡ Register r
-  unfolding first registersFrom upwards
+  unfolding first registersFrom numbersFrom
   least-hit h t =
       let e : suc registers - r ≡ suc (registers - r) = omega arith in
       rw e (simp t)
 
   pub least-miss : r ≤ registers → test r ≡ false → first test (registersFrom r) ≡ first test (registersFrom (r + 1))
-  unfolding first registersFrom upwards
+  unfolding first registersFrom numbersFrom
   least-miss h t =
       let e : suc registers - r ≡ suc (suc registers - (r + 1)) = omega arith in
       rw e (simp t (rw (add-one r)))
 
   pub least-end : registers < r → first test (registersFrom r) ≡ NoRegister
-  unfolding first registersFrom upwards
+  unfolding first registersFrom numbersFrom
   least-end h =
       let e : suc registers - r ≡ 0 = omega arith in
       rw e

@@ -9,11 +9,12 @@ use native.Mathlib.Omega.{arith}
 use lib.Dec.{eqb}
 use borrow.Author.Tests.{eqb-true, eqb-false}
 use Rattle.notation.specs.Choice.{if_then_else_}
+use Rattle.notation.specs.Lists.{numbersFrom}
 use Rattle.sizes.specs.Sizes.{registers}
 use Rattle.allocator_state.specs.declared.Counters.{Counters}
 use Rattle.choice.specs.declared.Chosen.{Chosen}
 use Rattle.choice.specs.declared.Chosen.the-variants.{Register, NoRegister}
-use Rattle.choice.specs.Choice.{isFree, first, upwards, registersFrom, firstUnused, leastFree, otherwise, chosen}
+use Rattle.choice.specs.Choice.{isFree, first, registersFrom, firstUnused, leastFree, otherwise, chosen}
 
 never : (r : ℕ) → NoRegister ≡ Register r → ⊥
 never r e = let z : _≡_ {A = ℕ} 0 1 = cc in omega arith
@@ -47,21 +48,21 @@ least-later test n end r t l =
           refl;
     }
 
-first-least : (test : ℕ → Bool) (k n r : ℕ) → first test (upwards n k) ≡ Register r → Least test n (n + k) r
-unfolding first upwards
+first-least : (test : ℕ → Bool) (k n r : ℕ) → first test (numbersFrom n k) ≡ Register r → Least test n (n + k) r
+unfolding first numbersFrom
 first-least test zero n r e = absurd (never r e)
 first-least test (suc k) n r e =
-    (elim (test n) as (λ t. test n ≡ t → (if t then Register n else first test (upwards (suc n) k)) ≡ Register r → Least test n (n + suc k) r) [
+    (elim (test n) as (λ t. test n ≡ t → (if t then Register n else first test (numbersFrom (suc n) k)) ≡ Register r → Least test n (n + suc k) r) [
       | true ↦ λ t e. (let same : n ≡ r = cc in least-here test n (n + suc k) r same (omega arith) t)
       | false ↦ λ t e. (let s : suc n + k ≡ n + suc k = omega arith in least-later test n (n + suc k) r t (rw s at (first-least test k (suc n) r e)))
     ])
     refl e
 
-least-first : (test : ℕ → Bool) (k n r : ℕ) → Least test n (n + k) r → first test (upwards n k) ≡ Register r
-unfolding first upwards
+least-first : (test : ℕ → Bool) (k n r : ℕ) → Least test n (n + k) r → first test (numbersFrom n k) ≡ Register r
+unfolding first numbersFrom
 least-first test zero n r l = absurd (omega (arith, l .from, l .below))
 least-first test (suc k) n r l =
-    elim (eqb n r) as (λ x. eqb n r ≡ x → (if test n then Register n else first test (upwards (suc n) k)) ≡ Register r) [
+    elim (eqb n r) as (λ x. eqb n r ≡ x → (if test n then Register n else first test (numbersFrom (suc n) k)) ≡ Register r) [
       | true ↦ λ x. (let e = eqb-true n r x in
           let t : test n ≡ true = subst (λ (y : ℕ). test y ≡ true) (sym e) (l .passes) in
           simp t (ap Register e))

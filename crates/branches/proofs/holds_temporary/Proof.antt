@@ -4,7 +4,8 @@ use Prim.Native.Nat.{_-_}
 use mathlib.Core.Path.{_≡_, refl, sym, _∙_}
 use borrow.Author.Needs.{needs}
 use Rattle.sizes.specs.Sizes.{variables}
-use Rattle.branches.specs.Lists.{numbersFrom, membersAmong, members}
+use Rattle.notation.specs.Lists.{numbersFrom}
+use Rattle.branches.specs.Lists.{membersAmong, members}
 use Rattle.branches.specs.Branches.{namesTemporary}
 use Rattle.branches.specs.BranchesLaws.{member-hit, member-miss, member-end}
 use Rattle.branches.proofs.holds_temporary.Statement.{statement}

@@ -5,7 +5,8 @@ use mathlib.Core.Path.{_≡_, refl, ap, _∙_}
 use borrow.Author.Needs.{needs}
 use Rattle.bit_set.specs.BitSet.{union}
 use Rattle.branch_stack.specs.declared.BranchOccurrences.{BranchOccurrences}
-use Rattle.branches.specs.Lists.{numbersFrom, each}
+use Rattle.notation.specs.Lists.{numbersFrom}
+use Rattle.branches.specs.Lists.{each}
 use Rattle.branches.specs.ListLaws.{each-number, each-number-end}
 use Rattle.branches.specs.Branches.{shallowJoined, deepJoined, branchMet}
 use Rattle.branches.proofs.meet.Statement.{statement}

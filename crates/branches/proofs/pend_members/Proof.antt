@@ -4,7 +4,8 @@ use Prim.Native.Nat.{_-_}
 use mathlib.Core.Path.{_≡_, refl}
 use borrow.Author.Needs.{needs}
 use Rattle.sizes.specs.Sizes.{variables}
-use Rattle.branches.specs.Lists.{numbersFrom, membersAmong, members, each}
+use Rattle.notation.specs.Lists.{numbersFrom}
+use Rattle.branches.specs.Lists.{membersAmong, members, each}
 use Rattle.branches.specs.ListLaws.{each-member, each-member-end}
 use Rattle.branches.specs.Branches.{variablePended, pendedIfMember}
 use Rattle.branches.proofs.pend_members.Statement.{statement}

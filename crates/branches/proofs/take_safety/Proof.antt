@@ -5,7 +5,8 @@ use mathlib.Core.Path.{_≡_, refl, ap, _∙_}
 use borrow.Author.Needs.{needs}
 use Rattle.sizes.specs.Sizes.{variables}
 use Rattle.branches.specs.declared.Guards.{Guards}
-use Rattle.branches.specs.Lists.{numbersFrom, membersAmong, members, each}
+use Rattle.notation.specs.Lists.{numbersFrom}
+use Rattle.branches.specs.Lists.{membersAmong, members, each}
 use Rattle.branches.specs.ListLaws.{each-member, each-member-end}
 use Rattle.branches.specs.Branches.{insertedIf, shallowTaken, deepTaken, safetyTaken}
 use Rattle.branches.specs.BranchesLaws.{shallow-if-member, deep-if-member}
