@@ -15,7 +15,7 @@ use Rattle.variable_records.specs.declared.VarAlloc.{VarAlloc}
 use Rattle.variable_records.specs.declared.VarAlloc.the-variants.{Temp, Perm}
 use Rattle.variable_records.specs.declared.PermVarAllocation.the-variants.{Done, Pending}
 use Rattle.variable_records.specs.Records.{allocated}
-use Rattle.variable_records.specs.Rows.{recordAt, recordPut}
+use Rattle.variable_records.specs.Rows.{recordAt, recordPut, isTemporary}
 use Rattle.variable_records.specs.Safety.{neededIf, safetyUnneeded}
 use Rattle.branch_stack.specs.declared.BranchOccurrences.{BranchOccurrences}
 use Rattle.branch_stack.specs.BranchStack.{occurrencesAt, rowsPut, setsPut, branchOpened}
@@ -155,13 +155,6 @@ module _ (rows sets : List ℕ) (opened : ℕ) where
   setsRecorded v = unlessRefused (recordRefusal recorded) sets (setsTop sets opened (occurrenceAdded (topOf rows sets opened) v))
 
 -- ---- `close`: so many levels are removed, with the variables that occurred there
-
-unfoldable pub temporary : VarAlloc → Bool
-temporary (Temp context register safety toPerm) = true
-temporary (Perm slot allocation) = false
-
-unfoldable pub isTemporary : List ℕ → ℕ → Bool
-isTemporary records v = temporary (recordAt records v .allocation)
 
 unfoldable pub namesTemporary : List ℕ → List ℕ → Bool
 namesTemporary records [] = false

@@ -10,12 +10,13 @@ use lib.Seq.{drop-cons}
 use Rattle.notation.specs.Choice.{if_then_else_}
 use Rattle.bit_set.specs.BitSet.{has, inserted}
 use Rattle.branch_stack.specs.declared.BranchOccurrences.{BranchOccurrences}
+use Rattle.variable_records.specs.Rows.{isTemporary}
 use Rattle.branches.specs.declared.Popped.the-variants.{Left}
 use Rattle.branches.specs.declared.Taken.the-variants.{Took}
 use Rattle.notation.specs.Lists.{numbersFrom}
 use Rattle.branches.specs.Lists.{membersAmong, members, each}
 use Rattle.branches.specs.ListLaws.{numbers-more, numbers-none}
-use Rattle.branches.specs.Branches.{isTemporary, namesTemporary, noGuards, guardsAt, guardsIfMember, insertedIf, shallowTaken, deepTaken}
+use Rattle.branches.specs.Branches.{namesTemporary, noGuards, guardsAt, guardsIfMember, insertedIf, shallowTaken, deepTaken}
 use Rattle.branches.specs.Branches.{rowsTop, setsTop, withSubsumed, branchMet, variableClosed, occurrencesAdded, popped, leftOnTop, recordsPopped, rowsPopped, setsPopped}
 use Rattle.branches.specs.Branches.{topOf, safetyTaken, variablePended, taken, recordsTaken, rowsTaken, setsTaken}
 

@@ -11,13 +11,13 @@ use Rattle.variable_records.specs.declared.PermVarAllocation.{PermVarAllocation
 use Rattle.variable_records.specs.declared.PermVarAllocation.the-variants.{Done, Pending}
 use Rattle.variable_records.specs.declared.VarAlloc.the-variants.{Perm}
 use Rattle.variable_records.specs.declared.VariableRecord.{VariableRecord}
-use Rattle.variable_records.specs.Rows.{recordAt, recordPut, recordOf, allocationOf, permOf, safetyOf}
+use Rattle.variable_records.specs.Rows.{recordAt, recordPut, recordOf, allocationOf, permOf, safetyOf, temporary, isTemporary}
 use Rattle.variable_records.specs.Safety.{neededIf, unneededIn}
 use Rattle.branches.specs.declared.Popped.the-variants.{Left}
 use Rattle.notation.specs.Lists.{numbersFrom}
 use Rattle.branches.specs.Lists.{membersAmong, each}
 use Rattle.branches.specs.Branches.{topOf, rowsTop, setsTop, opening, rowsOpened, setsOpened, advanced, rowsAdvanced, setsAdvanced, recorded, rowsRecorded, setsRecorded}
-use Rattle.branches.specs.Branches.{temporary, isTemporary, namesTemporary, nowhereRecorded, branchMet, allocationMet, variableClosed, popped, recordsPopped, rowsPopped, setsPopped}
+use Rattle.branches.specs.Branches.{namesTemporary, nowhereRecorded, branchMet, allocationMet, variableClosed, popped, recordsPopped, rowsPopped, setsPopped}
 use Rattle.branches.specs.Branches.{guardsIn, insertedIf, safetyTaken, allocationPending, variablePended, taken, recordsTaken, rowsTaken, setsTaken}
 
 abbrev variable : PermVarAllocation → VariableRecord

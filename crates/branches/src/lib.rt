@@ -2,8 +2,9 @@
 ghost use mathlib.Core.Path.{_≡_};
 ghost use mathlib.Core.Bool.{_&&_};
 ghost use Rattle.bit_set.specs.BitSet.{has, inserted};
+ghost use Rattle.variable_records.specs.Rows.{isTemporary};
 ghost use Rattle.branches.specs.Lists.{members, each};
-ghost use Rattle.branches.specs.Branches.{topOf, rowsTop, setsTop, isTemporary, namesTemporary};
+ghost use Rattle.branches.specs.Branches.{topOf, rowsTop, setsTop, namesTemporary};
 ghost use Rattle.branches.specs.Branches.{opening, rowsOpened, setsOpened};
 ghost use Rattle.branches.specs.Branches.{advanced, rowsAdvanced, setsAdvanced};
 ghost use Rattle.branches.specs.Branches.{recorded, rowsRecorded, setsRecorded};
@@ -161,30 +162,13 @@ pub fn add_branch_occurrence(
     Recorded::Well
 }
 
-// Whether a variable is a temporary.
-fn is_temporary(records: &Records, v: u32) -> bool
-    ensures { λ r. ⌜ r ≡ isTemporary (now (records .entry)) v ⌝ }
-{
-    let variable = variable_records::load(records, v);
-    let allocation = variable.allocation;
-    match allocation {
-        VarAlloc::Temp {
-            term_loc: _,
-            temp_reg: _,
-            safety: _,
-            to_perm_var_num: _,
-        } => true,
-        VarAlloc::Perm(_, _) => false,
-    }
-}
-
 // Whether some variable of a list is a temporary.
 fn names_temporary(records: &Records, variables: &[u32]) -> bool
     ensures { λ r. ⌜ r ≡ namesTemporary (now (records .entry)) (now (variables .entry)) ⌝ }
 {
     let mut i = 0;
     while i < variables.len() {
-        if is_temporary(records, variables[i]) {
+        if variable_records::is_temporary(records, variables[i]) {
             return true;
         }
         i += 1;
@@ -330,7 +314,7 @@ fn is_temporary_member(records: &Records, set: BitSet, v: u32) -> bool
     ensures { λ r. ⌜ r ≡ (has set v && isTemporary (now (records .entry)) v) ⌝ }
 {
     if bit_set::contains(set, v) {
-        return is_temporary(records, v);
+        return variable_records::is_temporary(records, v);
     }
     false
 }

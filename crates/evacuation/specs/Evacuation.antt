@@ -1,6 +1,6 @@
 -- The choice of a register for a variable by its sets, and an argument's register emptied of another variable's value.
 use Prim.Native.Nat.{ℕ, _%_}
-use mathlib.Core.Bool.{Bool, true, false, not}
+use mathlib.Core.Bool.{not}
 use mathlib.Core.List.{List}
 use lib.Dec.{eqb, leb}
 use lib.ListN.{getD}
@@ -8,13 +8,12 @@ use Rattle.notation.specs.Choice.{if_then_else_}
 use Rattle.sizes.specs.Sizes.{variables}
 use Rattle.refusals.specs.Refusals.{accepted, refusedRegister}
 use Rattle.bit_set.specs.BitSet.{inserted, union}
-use Rattle.registers.specs.declared.RegType.{RegType}
-use Rattle.registers.specs.declared.RegType.the-variants.{Temp, Perm}
+use Rattle.registers.specs.declared.RegType.the-variants.{Temp}
 use Rattle.instructions.specs.declared.Instruction.the-variants.{GetVariable}
 use Rattle.code_deque.specs.declared.CodeDeque.{CodeDeque}
 use Rattle.code_deque.specs.CodeDeque.{pushed}
-use Rattle.variable_records.specs.Records.{placeOf, placedAt}
-use Rattle.variable_records.specs.Rows.{recordAt, recordPut}
+use Rattle.variable_records.specs.Records.{placedAt}
+use Rattle.variable_records.specs.Rows.{recordAt, recordPut, isTemporary}
 use Rattle.shallow_temp_mappings.specs.Mappings.{unmapped, mappedAt, mappedWith}
 use Rattle.temp_var_data.specs.Uses.{usesOf, containsUse, useCode, lastContext}
 use Rattle.allocator_state.specs.declared.Counters.{Counters}
@@ -38,13 +37,6 @@ allocWithCr c useSets useCounts noUse v = chosen c (usesOf useSets useCounts v) 
 abbrev pub allocWithCa : Counters → List ℕ → List ℕ → List ℕ → List ℕ → ℕ → Chosen
 allocWithCa c useSets useCounts noUse conflict v =
     chosen c (usesOf useSets useCounts v) (union (setAt noUse v) (setAt conflict v))
-
-abbrev pub isTempPlace : RegType → Bool
-isTempPlace (Temp r) = true
-isTempPlace (Perm r) = false
-
-unfoldable pub isTemp : List ℕ → ℕ → Bool
-isTemp records v = isTempPlace (placeOf (recordAt records v))
 
 -- ---- Evacuation
 
@@ -70,7 +62,7 @@ hint c records mappings s chunk =
     let k = c .«arg_c» in
     let v = mappedAt mappings k in
     if leb variables v then Stays
-    else if not (isTemp records v) then Stays
+    else if not (isTemporary records v) then Stays
     else if containsUse (usesOf (s .useSets) (s .useCounts) v) (useCode (lastContext chunk) k) then Stays
     else hintTo v (allocWithCa c (s .useSets) (s .useCounts) (s .noUse) (s .conflict) v)
 

@@ -4,7 +4,6 @@ ghost use Rattle.evacuation.specs.Evacuation.{
   setAt,
   allocWithCr,
   allocWithCa,
-  isTemp,
   sets,
   hint,
   evacuation,
@@ -64,17 +63,6 @@ pub fn alloc_with_ca(
     choice::choose(counters, use_set, avoided)
 }
 
-// Whether a variable is a temporary.
-pub fn is_temp(records: &Records, v: u32) -> bool
-    ensures { λ r. ⌜ r ≡ isTemp (now (records .entry)) v ⌝ }
-{
-    let place = variable_records::load(records, v).as_reg_type();
-    match place {
-        RegType::Temp(_) => true,
-        RegType::Perm(_) => false,
-    }
-}
-
 // What is to become of the variable in the argument's register.
 pub enum Hint {
     Stays,
@@ -100,7 +88,7 @@ pub fn alloc_in_last_goal_hint(
     if VARIABLES as u32 <= v {
         return Hint::Stays;
     }
-    if !is_temp(records, v) {
+    if !variable_records::is_temporary(records, v) {
         return Hint::Stays;
     }
     if temp_var_data::contains_use(use_sets, use_counts, v, temp_var_data::last_use(chunk, k)) {

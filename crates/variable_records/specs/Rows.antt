@@ -1,5 +1,6 @@
 -- A record as numbers: the meaning of each code, and the table of rows.
 use Prim.Native.Nat.{ℕ, _+_, _*_, _%_}
+use mathlib.Core.Bool.{Bool, true, false}
 use mathlib.Core.List.{List}
 use lib.Dec.{eqb}
 use lib.ListN.{getD, set}
@@ -177,3 +178,12 @@ recordAt records v = recordOf (rowAt records v)
 
 unfoldable pub recordPut : List ℕ → ℕ → VariableRecord → List ℕ
 recordPut records v variable = rowPut records v (rowOf variable)
+
+-- ---- Kinds
+
+unfoldable pub temporary : VarAlloc → Bool
+temporary (Temp context register safety toPerm) = true
+temporary (Perm slot allocation) = false
+
+unfoldable pub isTemporary : List ℕ → ℕ → Bool
+isTemporary records v = temporary (recordAt records v .allocation)

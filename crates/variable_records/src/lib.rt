@@ -18,6 +18,7 @@ ghost use Rattle.variable_records.specs.Rows.{
   rowPut,
   recordAt,
   recordPut,
+  isTemporary,
 };
 use forms::Branch;
 use forms::GenContext;
@@ -325,6 +326,23 @@ pub fn store(records: &mut Records, v: u32, variable: VariableRecord)
     ensures { λ _. ⌜ now (records .exit) ≡ recordPut (now (records .entry)) v variable ⌝ }
 {
     put_row(records, v, row_of(variable));
+}
+
+// Whether a variable is a temporary.
+pub fn is_temporary(records: &Records, v: u32) -> bool
+    ensures { λ r. ⌜ r ≡ isTemporary (now (records .entry)) v ⌝ }
+{
+    let variable = load(records, v);
+    let allocation = variable.allocation;
+    match allocation {
+        VarAlloc::Temp {
+            term_loc: _,
+            temp_reg: _,
+            safety: _,
+            to_perm_var_num: _,
+        } => true,
+        VarAlloc::Perm(_, _) => false,
+    }
 }
 
 // The safety of a variable that was guarded in a branch: a branch that starts at 0 counts as the whole clause.

@@ -1,5 +1,5 @@
 -- `marks::alloc_shallow`: each way of the code is a case of the definition. Assumes nothing.
-use borrow.Author.Tests.{le-leb, le-ltb, lt-ltb, lt-leb}
+use borrow.Author.Tests.{le-ltb, lt-ltb}
 use borrow.Author.Needs.{needs}
 use Rattle.marks.specs.Marks.{allocShallow, afterEvacuation}
 use Rattle.marks.proofs.alloc_shallow.Statement.{statement}
@@ -10,7 +10,7 @@ evacuate-arg-requires c κs = search needs
 
 returns : tie.Need-returns
 unfolding allocShallow afterEvacuation
-returns c = simp (← c .before .before .evacuate-arg .ensures, lt-ltb _ _ (c .if1 .taken), lt-leb _ _ (c .if1 .taken))
+returns c = simp (← c .before .before .evacuate-arg .ensures, lt-ltb _ _ (c .if1 .taken))
 
 alloc-with-cr-requires : tie.Need-alloc-with-cr-requires
 alloc-with-cr-requires c κs = search needs
@@ -20,7 +20,7 @@ chosen-or-refused-requires c κs = search needs
 
 returns-2 : tie.Need-returns-2
 unfolding allocShallow afterEvacuation
-returns-2 c = simp (← c .before .before .before .before .before .evacuate-arg .ensures, le-leb _ _ (c .before .before .before .if1 .left), le-ltb _ _ (c .before .before .before .if1 .left), ← c .before .alloc-with-cr .ensures, c .chosen-or-refused .ensures)
+returns-2 c = simp (← c .before .before .before .before .before .evacuate-arg .ensures, le-ltb _ _ (c .before .before .before .if1 .left), ← c .before .alloc-with-cr .ensures, c .chosen-or-refused .ensures)
 
 pub alloc-shallow-spec : {M : Type 1} → statement M
 alloc-shallow-spec =

@@ -1,5 +1,5 @@
 -- `reserved_var::advanced`: each way of the code is a case of the definition. Assumes nothing.
-use borrow.Author.Tests.{le-leb, le-ltb, lt-ltb, lt-leb}
+use borrow.Author.Tests.{le-ltb, lt-ltb}
 use borrow.Author.Needs.{needs}
 use Rattle.reserved_var.specs.ReservedVar.{advancedBy}
 use Rattle.reserved_var.proofs.advanced.Statement.{statement}
@@ -7,7 +7,7 @@ use Rattle.reserved_var.proofs.advanced.Tie as tie
 
 returns : tie.Need-returns
 unfolding advancedBy
-returns c = simp (lt-ltb _ _ (c .if1 .taken), lt-leb _ _ (c .if1 .taken))
+returns c = simp (lt-ltb _ _ (c .if1 .taken))
 
 counter-after-requires : tie.Need-counter-after-requires
 counter-after-requires c κs = search needs
@@ -17,7 +17,7 @@ going-requires c κs = search needs
 
 returns-2 : tie.Need-returns-2
 unfolding advancedBy
-returns-2 c = simp (le-leb _ _ (c .before .before .before .if1 .left), le-ltb _ _ (c .before .before .before .if1 .left), ← c .before .counter-after .ensures, c .going .ensures)
+returns-2 c = simp (le-ltb _ _ (c .before .before .before .if1 .left), ← c .before .counter-after .ensures, c .going .ensures)
 
 pub advanced-spec : {M : Type 1} → statement M
 advanced-spec = tie.close (tie.spec returns counter-after-requires going-requires returns-2)

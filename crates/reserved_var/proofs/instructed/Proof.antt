@@ -1,5 +1,5 @@
 -- `reserved_var::instructed`: each way of the code is a case of the definition. Assumes nothing.
-use borrow.Author.Tests.{le-leb, le-ltb, lt-ltb, lt-leb}
+use borrow.Author.Tests.{le-ltb, lt-ltb}
 use borrow.Author.Needs.{needs}
 use Rattle.reserved_var.specs.ReservedVar.{instructedAfter}
 use Rattle.reserved_var.proofs.instructed.Statement.{statement}
@@ -7,7 +7,7 @@ use Rattle.reserved_var.proofs.instructed.Tie as tie
 
 returns : tie.Need-returns
 unfolding instructedAfter
-returns c = simp (lt-ltb _ _ (c .if1 .taken), lt-leb _ _ (c .if1 .taken))
+returns c = simp (lt-ltb _ _ (c .if1 .taken))
 
 push-back-requires : tie.Need-push-back-requires
 push-back-requires c κs = search needs
@@ -17,7 +17,7 @@ going-requires c κs = search needs
 
 returns-2 : tie.Need-returns-2
 unfolding instructedAfter
-returns-2 c = simp (le-leb _ _ (c .before .before .if1 .left), le-ltb _ _ (c .before .before .if1 .left), ← c .before .push-back .ensures, c .going .ensures)
+returns-2 c = simp (le-ltb _ _ (c .before .before .if1 .left), ← c .before .push-back .ensures, c .going .ensures)
 
 pub instructed-spec : {M : Type 1} → statement M
 instructed-spec = tie.close (tie.spec returns push-back-requires going-requires returns-2)

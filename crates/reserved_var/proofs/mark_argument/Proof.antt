@@ -1,5 +1,5 @@
 -- `reserved_var::mark_argument`: each way of the code is a case of the definition. Assumes nothing.
-use borrow.Author.Tests.{le-leb, le-ltb, lt-ltb, lt-leb}
+use borrow.Author.Tests.{le-leb, le-ltb, lt-ltb}
 use borrow.Author.Needs.{needs}
 use Rattle.reserved_var.specs.ReservedVar.{argumentMarked, markedAfter}
 use Rattle.reserved_var.proofs.mark_argument.Statement.{statement}
@@ -13,7 +13,7 @@ empty-argument-requires c κs = search needs
 
 returns : tie.Need-returns
 unfolding argumentMarked markedAfter
-returns c = simp (← c .before .before .before .chunk-num .ensures, ← c .before .before .empty-argument .ensures, lt-ltb _ _ (c .if1 .taken), lt-leb _ _ (c .if1 .taken))
+returns c = simp (← c .before .before .before .chunk-num .ensures, ← c .before .before .empty-argument .ensures, lt-ltb _ _ (c .if1 .taken))
 
 put-argument-requires : tie.Need-put-argument-requires
 put-argument-requires c κs = search needs

@@ -1,5 +1,5 @@
 -- `reserved_var::remember`: each way of the code is a case of the definition. Assumes nothing.
-use borrow.Author.Tests.{le-leb, le-ltb, lt-ltb, lt-leb}
+use borrow.Author.Tests.{le-leb, lt-ltb, lt-leb}
 use borrow.Author.Needs.{needs}
 use Rattle.reserved_var.specs.ReservedVar.{remembered}
 use Rattle.reserved_var.proofs.remember.Statement.{statement}
@@ -13,7 +13,7 @@ cast-if1 c = search needs
 
 returns : tie.Need-returns
 unfolding remembered
-returns c = simp (← c .before .get .ensures, le-leb _ _ (c .if1 .taken), le-ltb _ _ (c .if1 .taken))
+returns c = simp (← c .before .get .ensures, le-leb _ _ (c .if1 .taken))
 
 load-requires : tie.Need-load-requires
 load-requires c κs = search needs

@@ -1,8 +1,8 @@
--- `branches::is_temporary`: each kind of record is a case of the definition. Assumes nothing.
+-- `variable_records::is_temporary`: each kind of record is a case of the definition. Assumes nothing.
 use borrow.Author.Needs.{needs}
-use Rattle.branches.specs.Branches.{temporary, isTemporary}
-use Rattle.branches.proofs.is_temporary.Statement.{statement}
-use Rattle.branches.proofs.is_temporary.Tie as tie
+use Rattle.variable_records.specs.Rows.{temporary, isTemporary}
+use Rattle.variable_records.proofs.is_temporary.Statement.{statement}
+use Rattle.variable_records.proofs.is_temporary.Tie as tie
 
 load-requires : tie.Need-load-requires
 load-requires c κs = search needs
