@@ -1,5 +1,5 @@
 -- Laws of the stack of open branches: what stands in its two tables after a level was put there.
-use Prim.Native.Nat.{ℕ, _-_, _%_, _<_}
+use Prim.Native.Nat.{ℕ, _-_, _*_, _%_, _<_}
 use mathlib.Core.Path.{_≡_, refl, ap, ap₂}
 use mathlib.Core.Logic.{_≢_}
 use mathlib.Core.List.{List}
@@ -23,7 +23,7 @@ occurrencesFrom numbers sets = occurrencesAt numbers sets 0
 
 module _ (rows sets : List ℕ) (level : ℕ) (branch : BranchOccurrences) where
   pub occurrences-put-same :
-      length rows ≡ 64 → length sets ≡ 48
+      length rows ≡ openBranches * 4 → length sets ≡ openBranches * 3
       → occurrencesAt (rowsPut rows level branch) (setsPut sets level branch) level ≡ branch
   occurrences-put-same rowsSize setsSize =
       ap₂ occurrencesFrom
@@ -49,7 +49,7 @@ sets-put-length sets level branch = length-put sets (setStart level) 0 (setsOf b
 
 -- what is put at the innermost open level is the current branch
 pub current-put :
-    (rows : List ℕ) (opened : ℕ) (branch : BranchOccurrences) → length rows ≡ 64 → 0 < opened
+    (rows : List ℕ) (opened : ℕ) (branch : BranchOccurrences) → length rows ≡ openBranches * 4 → 0 < opened
     → currentBranch (rowsPut rows (opened - 1) branch) opened ≡ branch .«current_branch_num»
 unfolding currentBranch
 current-put rows opened branch size nested =

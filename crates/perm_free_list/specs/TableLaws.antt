@@ -1,5 +1,5 @@
 -- Laws of the queue's table: what stands in it after an entry was put there.
-use Prim.Native.Nat.{ℕ, zero, suc, _+_, _%_, _<_}
+use Prim.Native.Nat.{ℕ, zero, suc, _+_, _*_, _%_, _<_}
 use mathlib.Core.Path.{_≡_, ap}
 use mathlib.Core.Logic.{_≢_}
 use mathlib.Core.List.{List, [], _∷_, _++_}
@@ -19,7 +19,7 @@ abbrev entryFrom : List ℕ → FreedSlot
 entryFrom numbers = entryAt numbers 0 0
 
 module _ (list : List ℕ) (first i : ℕ) (entry : FreedSlot) where
-  pub entry-put-same : length list ≡ 256 → entryAt (entryPut list first i entry) first i ≡ entry
+  pub entry-put-same : length list ≡ freedSlots * 2 → entryAt (entryPut list first i entry) first i ≡ entry
   entry-put-same size = ap entryFrom (cells-put-same list (entryStart first i) 0 (numbersOf entry) (omega arith))
 
   pub entry-put-other :
@@ -31,7 +31,7 @@ module _ (list : List ℕ) (first i : ℕ) (entry : FreedSlot) where
   pub entry-put-length : length (entryPut list first i entry) ≡ length list
   entry-put-length = length-put list (entryStart first i) 0 (numbersOf entry)
 
-module _ (list : List ℕ) (first count : ℕ) (entry : FreedSlot) (size : length list ≡ 256) (h : count < freedSlots) where
+module _ (list : List ℕ) (first count : ℕ) (entry : FreedSlot) (size : length list ≡ freedSlots * 2) (h : count < freedSlots) where
   -- the same from entry i on
   pushed :
       (i n : ℕ) → i + n ≡ count

@@ -1,5 +1,5 @@
 -- Laws of mappings: what a register maps to after one was mapped.
-use Prim.Native.Nat.{ℕ, _≤_}
+use Prim.Native.Nat.{ℕ, suc, _≤_}
 use mathlib.Core.Path.{_≡_, refl, ap}
 use mathlib.Core.Logic.{_≢_}
 use mathlib.Core.Bool.{true, false}
@@ -14,7 +14,7 @@ use Rattle.sizes.specs.Sizes.{registers}
 use Rattle.shallow_temp_mappings.specs.Mappings.{unmapped, mappedAt, mappedWith}
 
 pub mapped-same :
-    (mappings : List ℕ) (r v : ℕ) → length mappings ≡ 64 → r ≤ registers → mappedAt (mappedWith mappings r v) r ≡ v
+    (mappings : List ℕ) (r v : ℕ) → length mappings ≡ suc registers → r ≤ registers → mappedAt (mappedWith mappings r v) r ≡ v
 unfolding mappedAt mappedWith
 mapped-same mappings r v size h = simp (le-leb _ _ h) (getD-set-same mappings r v 0 (omega arith))
 

@@ -1,5 +1,5 @@
 -- Laws of the table of records: what stands in it after a record was put there.
-use Prim.Native.Nat.{ℕ, _%_, _<_}
+use Prim.Native.Nat.{ℕ, _*_, _%_, _<_}
 use mathlib.Core.Path.{_≡_, ap, _∙_}
 use mathlib.Core.Logic.{_≢_}
 use mathlib.Core.List.{List}
@@ -23,7 +23,7 @@ abbrev recordFrom : List ℕ → VariableRecord
 recordFrom numbers = recordOf (rowAt numbers 0)
 
 pub record-put-same :
-    (records : List ℕ) (v : ℕ) (variable : VariableRecord) → length records ≡ 1024
+    (records : List ℕ) (v : ℕ) (variable : VariableRecord) → length records ≡ variables * rowCells
     → recordAt (recordPut records v variable) v ≡ variable
 unfolding recordAt recordPut
 record-put-same records v variable size =

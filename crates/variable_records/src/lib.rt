@@ -23,13 +23,14 @@ ghost use Rattle.variable_records.specs.Rows.{
 use forms::Branch;
 use forms::GenContext;
 use registers::RegType;
+use sizes::VARIABLES;
 
 // The cells of a row, and of all rows.
 pub const ROW: usize = 16;
 
-pub const CELLS: usize = 1024;
+pub const CELLS: usize = VARIABLES * ROW;
 // In the place of a variable's number: no variable.
-pub const UNSET: u32 = 64;
+pub const UNSET: u32 = VARIABLES as u32;
 
 pub type Records = [u32; CELLS];
 
