@@ -1,4 +1,4 @@
--- The state of a fresh clause.
+-- The numbers of a fresh clause that are no table, and how a counter runs.
 use Prim.Native.Nat.{ℕ, _+_}
 use lib.Dec.{ltb}
 use Rattle.notation.specs.Choice.{if_then_else_}

@@ -1,4 +1,4 @@
-// The allocator's state: tables of numbers, and the numbers that are no table.
+// The allocator's numbers that are no table.
 ghost use mathlib.Core.Path.{_≡_};
 ghost use Rattle.allocator_state.specs.State.{freshCounters, counterAfter};
 use bit_set::BitSet;

@@ -7,6 +7,7 @@ use libc::STDOUT_FILENO;
 use numbers::Number;
 use registers::RegType;
 use sizes::LAST_REGISTER;
+use sizes::SHEET_BYTES;
 use split::LINE_FEED;
 use split::TAB;
 
@@ -109,7 +110,7 @@ fn show_lines(sheet: &[u8]) {
 }
 
 fn main() {
-    let mut input = [0u8; 65536];
+    let mut input = [0u8; SHEET_BYTES];
     let n = io::read_full(STDIN_FILENO, &mut input);
     show_lines(&input[..n]);
 }

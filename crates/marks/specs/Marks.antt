@@ -1,4 +1,4 @@
--- A mark's steps on the tables.
+-- A register for a new temporary.
 use Prim.Native.Nat.{ℕ}
 use mathlib.Core.List.{List}
 use lib.Dec.{ltb}

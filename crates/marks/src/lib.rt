@@ -1,4 +1,4 @@
-// A mark's steps on the tables: a register for a new temporary, and the instruction for an argument or a subterm.
+// A register for a new temporary: an argument's register is emptied first, all others are chosen apart.
 ghost use mathlib.Core.Path.{_≡_};
 ghost use Rattle.evacuation.specs.Evacuation.{sets, evacuation};
 ghost use Rattle.marks.specs.Marks.{
