@@ -41,7 +41,8 @@ pub fn fresh_counters() -> Counters
     }
 }
 
-// A counter's next number. It stays at its last, so that no sum can wrap; events that would pass it are refused before.
+// A counter's next number. It stays at its last, so that no sum can wrap; events have to refuse what would
+// pass it.
 pub fn counter_after(n: u32) -> u32
     ensures { λ r. ⌜ r ≡ counterAfter n ⌝ }
 {
