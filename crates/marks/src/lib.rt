@@ -15,6 +15,7 @@ use evacuation::Reached;
 use evacuation::RegisterSets;
 use forms::GenContext;
 use forms::Level;
+use registers::RegType;
 use shallow_temp_mappings::Mappings;
 use temp_var_data::UseCounts;
 use temp_var_data::UseSets;
@@ -24,6 +25,12 @@ use variable_records::Records;
 pub struct RegPlaced {
     pub reached: Reached,
     pub place: u32,
+}
+
+// How far a mark has come, with the place of what it marked.
+pub struct Marked {
+    pub reached: Reached,
+    pub place: RegType,
 }
 
 // The register that was chosen, or the refusal that there is none.

@@ -1,0 +1,2 @@
+pub mod ClauseRecords
+pub mod ClauseRecordsLaws

@@ -1,0 +1,2 @@
+pub mod MarkVar
+pub mod MarkVarLaws
