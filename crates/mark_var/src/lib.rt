@@ -1,5 +1,6 @@
 // A variable is marked: it gets a place if it has none, its instruction is made, and the mark is settled.
 ghost use mathlib.Core.Path.{_≡_};
+ghost use Rattle.bit_set.specs.BitSet.{inserted};
 ghost use Rattle.evacuation.specs.Evacuation.{sets, evacuation};
 ghost use Rattle.branches.specs.Branches.{recordRefusal, recorded, rowsRecorded, setsRecorded};
 ghost use Rattle.freeing.specs.Freeing.{releaseOf};
@@ -20,6 +21,7 @@ ghost use Rattle.mark_var.specs.MarkVar.{
   varMarked,
 };
 use allocator_state::Counters;
+use bit_set::BitSet;
 use branch_stack::BranchRows;
 use branch_stack::BranchSets;
 use branches::Recorded;
@@ -102,6 +104,16 @@ fn number_of(place: RegType) -> u32
     }
 }
 
+// The registers in use with a place's number among them, a slot's too.
+fn used_by(in_use: BitSet, place: RegType) -> BitSet
+    ensures { λ r. ⌜ r ≡ inserted «in_use» (numberOfPlace place) ⌝ }
+{
+    match place {
+        RegType::Temp(r) => bit_set::insert(in_use, r),
+        RegType::Perm(slot) => bit_set::insert(in_use, slot),
+    }
+}
+
 // Keeps a variable's place, counts or frees the variable, and puts the place's number in use.
 fn settle(
     counters: Counters,
@@ -119,7 +131,7 @@ fn settle(
     variable_records::store(records, v, variable.set_register(number));
     let released = freeing::count_or_free(counters, records, list, chunk, v);
     let mut used = released.counters;
-    used.in_use = bit_set::insert(used.in_use, number);
+    used.in_use = used_by(used.in_use, place);
     Released {
         counters: used,
         refusal: released.refusal,

@@ -1,0 +1,15 @@
+pub mod Lists
+pub mod Every
+pub mod Kept
+pub mod OfEvacuation
+pub mod OfAllocation
+pub mod OfRecordMarks
+pub mod OfReservedVar
+pub mod OfMarkVar
+pub mod OfOtherMarks
+pub mod OfResets
+pub mod OfBranches
+pub mod OfClauseRecords
+pub mod OfEvents
+pub mod OfSteps
+pub mod Invariants
