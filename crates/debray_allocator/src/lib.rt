@@ -6,7 +6,6 @@ ghost use Rattle.debray_allocator.specs.DebrayAllocator.{
   byRelease,
   byRefusal,
   byMark,
-  refusedWith,
   answerOf,
   carriedOut,
   seenAfter,

@@ -1,5 +1,4 @@
 -- `fields::field`: the part up to its end, without the first byte. Assumes nothing.
-use mathlib.Core.Path.{_∙_}
 use borrow.Author.Needs.{needs}
 use Rattle.fields.specs.FieldsLaws.{field-part}
 use Rattle.fields.proofs.field.Statement.{statement}

@@ -1,0 +1,49 @@
+-- `event_lines::list_line`: each way of the code is a case of the definition. Assumes nothing.
+use borrow.Author.Needs.{needs}
+use borrow.Author.Tests.{ne-eqb}
+use Rattle.event_lines.specs.EventLines.{listLine, listEntries}
+use Rattle.event_lines.proofs.list_line.Statement.{statement}
+use Rattle.event_lines.proofs.list_line.Tie as tie
+
+temp-line-requires : tie.Need-temp-line-requires
+temp-line-requires c κs = search needs
+
+read-list-requires : tie.Need-read-list-requires
+read-list-requires c κs = search needs
+
+headed-requires : tie.Need-headed-requires
+headed-requires c κs = search needs
+
+close-line-requires : tie.Need-close-line-requires
+close-line-requires c κs = search needs
+
+returns : tie.Need-returns
+unfolding listLine listEntries
+returns c =
+    (simp (c .before .before .match .keys1, c .temp-line .ensures .0), simp (c .before .before .match .keys1, c .temp-line .ensures .1))
+
+returns-2 : tie.Need-returns-2
+unfolding listLine listEntries
+returns-2 c =
+    let k = c .before .before .before .match .keys2 in
+    (simp (k, c .headed .ensures, c .before .read-list .ensures .0), simp (k, c .before .read-list .ensures .1))
+
+returns-3 : tie.Need-returns-3
+unfolding listLine listEntries
+returns-3 c =
+    let k = c .before .before .match .rest in (
+      simp (ne-eqb _ _ (k .0 .1), ne-eqb _ _ (k .1), c .close-line .ensures .0),
+      simp (ne-eqb _ _ (k .0 .1), ne-eqb _ _ (k .1), c .close-line .ensures .1),
+    )
+
+pub list-line-spec : {M : Type 1} → statement M
+list-line-spec =
+    tie.close
+    (tie.spec
+    temp-line-requires
+    read-list-requires
+    headed-requires
+    close-line-requires
+    returns
+    returns-2
+    returns-3)

@@ -1,0 +1,10 @@
+pub mod RulesLaws
+pub mod CountsLaws
+pub mod StepsLaws
+pub mod MarkLaws
+pub mod SettledLaws
+pub mod CutLaws
+pub mod QueueLaws
+pub mod LineLaws
+pub mod RulesEasilyMissed
+pub mod Sheets
