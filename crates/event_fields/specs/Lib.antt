@@ -1,0 +1,2 @@
+pub mod EventFields
+pub mod EventFieldsLaws
