@@ -7,4 +7,3 @@ pub mod CutLaws
 pub mod QueueLaws
 pub mod LineLaws
 pub mod RulesEasilyMissed
-pub mod Sheets

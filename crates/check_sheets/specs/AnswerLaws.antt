@@ -1,0 +1,136 @@
+-- Laws of the answer: each way to it.
+use Prim.Native.Nat.{ℕ, _≤_, _<_}
+use mathlib.Core.Path.{_≡_, refl, ap, ap₂, sym, _∙_}
+use mathlib.Core.Bool.{Bool, true, false, false≢true}
+use mathlib.Core.List.{List, [], _∷_, _++_}
+use native.Mathlib.Omega.{arith}
+use native.Mathlib.Nat.{zero-add}
+use lib.ListN.{length, take, drop, length-append, length-drop}
+use lib.Seq.{take-all}
+use borrow.Author.Tests.{lt-ltb, le-ltb, le-leb}
+use Rattle.notation.specs.Text.{bytes}
+use Rattle.refusals.specs.Refusals.{refusedFull, refusedRoom}
+use Rattle.sizes.specs.Sizes.{sheetBytes}
+use Rattle.printing.specs.Printing.{printed, placeAfter, Put}
+use Rattle.steps.specs.declared.CheckLine.{CheckLine}
+use Rattle.steps.specs.Steps.{freshOrder}
+use Rattle.symbolic.specs.Symbolic.{freshSymbols, carriedAll}
+use Rattle.verdict.specs.Verdict.{decided}
+use Rattle.answered.specs.declared.Answered.{Answered}
+use Rattle.answered.specs.declared.Answered.the-variants.{Written, Refused}
+use Rattle.answered.specs.Answered.{filledBy}
+use Rattle.check_sheets.specs.declared.Run.{Run}
+use Rattle.check_sheets.specs.declared.Run.the-variants.{Refused as Bad, Decided}
+use Rattle.check_sheets.specs.CheckSheets.{Reading, bad, reads, wordOf, roomed, verdict, textOf, answeredBy, reading, answered, filled}
+use Rattle.check_sheets.specs.Running.{runFrom, runOf}
+
+-- ---- The word
+
+word-length : (right : Bool) → length (wordOf right) ≡ 9
+word-length true = refl
+word-length false = refl
+
+module _ (right : Bool) (out : List ℕ) where
+  no-room : length out < 9 → Refused 0 refusedRoom ≡ roomed right (length out)
+  unfolding roomed
+  no-room h = simp (word-length right, lt-ltb (length out) 9 h)
+
+  room : 9 ≤ length out → Written 9 ≡ roomed right (length out)
+  unfolding roomed
+  room h = simp (word-length right, le-ltb (length out) 9 h)
+
+  place : {count : ℕ} {after : List ℕ} → 9 ≤ length out → Put out 0 (wordOf right) count after → count ≡ 9
+  unfolding placeAfter
+  place h put = put .place ∙ rw (zero-add, word-length right) (simp (le-leb 9 (length out) h))
+
+  text : {count : ℕ} {after : List ℕ} → 9 ≤ length out → Put out 0 (wordOf right) count after → after ≡ wordOf right ++ drop 9 out
+  unfolding printed
+  text h put =
+      put .bytes
+      ∙ rw (zero-add, word-length right)
+      (take-all (length out) (wordOf right ++ drop 9 out) (omega (arith, length-append (wordOf right) (drop 9 out), length-drop 9 out, word-length right)))
+
+  pub word-refused :
+      length out < 9
+      → (Refused 0 refusedRoom ≡ roomed right (length out)) × (out ≡ filledBy (roomed right (length out)) (wordOf right) out)
+  word-refused h = (no-room h, ap (λ a. filledBy a (wordOf right) out) (no-room h))
+
+  pub word-written :
+      {count : ℕ} {after : List ℕ} → 9 ≤ length out → Put out 0 (wordOf right) count after
+      → (Written count ≡ roomed right (length out)) × (after ≡ filledBy (roomed right (length out)) (wordOf right) out)
+  word-written h put =
+      (ap (λ (n : ℕ). Written n) (place h put) ∙ room h, text h put ∙ ap (λ a. filledBy a (wordOf right) out) (room h))
+
+-- ---- The answer
+
+module _ (sheet out : List ℕ) where
+  pub sheet-full :
+      sheetBytes < length sheet → (Refused 0 refusedFull ≡ answered sheet (length out)) × (out ≡ filled sheet out)
+  unfolding answered filled
+  sheet-full h = (simp (lt-ltb _ _ h), simp (lt-ltb _ _ h))
+
+  read-answered : length sheet ≤ sheetBytes → answered sheet (length out) ≡ answeredBy (reading sheet) (length out)
+  unfolding answered
+  read-answered h = simp (le-ltb _ _ h)
+
+  read-filled :
+      length sheet ≤ sheetBytes
+      → filled sheet out ≡ filledBy (answeredBy (reading sheet) (length out)) (textOf (reading sheet)) out
+  unfolding filled
+  read-filled h = ap (λ a. filledBy a (textOf (reading sheet)) out) (read-answered h)
+
+-- ---- What the run told
+
+abbrev refusedBy : Run → Answered
+refusedBy (Bad line refusal) = Refused line refusal
+refusedBy (Decided right) = Written 0
+
+abbrev rightBy : Run → Bool
+rightBy (Bad line refusal) = false
+rightBy (Decided right) = right
+
+abbrev isBad : Run → Bool
+isBad (Bad line refusal) = true
+isBad (Decided right) = false
+
+bad-told :
+    (r : Reading) (out : List ℕ) {line refusal : ℕ} → Bad line refusal ≡ runOf r
+    → (Refused line refusal ≡ answeredBy r (length out)) × (out ≡ filledBy (answeredBy r (length out)) (textOf r) out)
+bad-told (bad number refusal) out e = (ap refusedBy e, refl)
+bad-told (reads lines) out e = absurd (false≢true (sym (ap isBad e)))
+
+judged-told :
+    (r : Reading) (out : List ℕ) {right : Bool} → Decided right ≡ runOf r
+    → (roomed right (length out) ≡ answeredBy r (length out))
+    × (filledBy (roomed right (length out)) (wordOf right) out ≡ filledBy (answeredBy r (length out)) (textOf r) out)
+unfolding verdict
+judged-told (bad number refusal) out e = absurd (false≢true (ap isBad e))
+judged-told (reads lines) out e =
+    let same = ap rightBy e in
+    (ap (λ b. roomed b (length out)) same, ap (λ b. filledBy (roomed b (length out)) (wordOf b) out) same)
+
+module _ (sheet out : List ℕ) (short : length sheet ≤ sheetBytes) {run : Run} (e : run ≡ runOf (reading sheet)) where
+  pub sheet-refused :
+      {line refusal : ℕ} → run ≡ Bad line refusal
+      → (Refused line refusal ≡ answered sheet (length out)) × (out ≡ filled sheet out)
+  sheet-refused told =
+      let w = bad-told (reading sheet) out (sym told ∙ e) in
+      (w .0 ∙ sym (read-answered sheet out short), w .1 ∙ sym (read-filled sheet out short))
+
+  pub sheet-judged :
+      {right : Bool} {a : Answered} {after : List ℕ} → run ≡ Decided right
+      → a ≡ roomed right (length out)
+      → after ≡ filledBy (roomed right (length out)) (wordOf right) out
+      → (a ≡ answered sheet (length out)) × (after ≡ filled sheet out)
+  sheet-judged told answers fills =
+      let w = judged-told (reading sheet) out (sym told ∙ e) in
+      (answers ∙ w .0 ∙ sym (read-answered sheet out short), fills ∙ w .1 ∙ sym (read-filled sheet out short))
+
+-- a sheet that is read is answered with its verdict's word, where there is room for it
+pub verdict-filled :
+    (sheet out : List ℕ) → length sheet ≤ sheetBytes → (lines : List CheckLine) → reading sheet ≡ reads lines → 9 ≤ length out
+    → filled sheet out ≡ wordOf (verdict lines) ++ drop 9 out
+verdict-filled sheet out short lines e space =
+    read-filled sheet out short
+    ∙ ap (λ r. filledBy (answeredBy r (length out)) (textOf r) out) e
+    ∙ ap (λ a. filledBy a (wordOf (verdict lines)) out) (sym (room (verdict lines) out space))

@@ -1,0 +1,51 @@
+-- One run over the lines of a check sheet: how far a line comes, what the run tells, and what holds between two lines.
+use Prim.Native.Nat.{ℕ, _+_, _-_, _≤_}
+use mathlib.Core.Path.{_≡_}
+use mathlib.Core.Bool.{Bool}
+use mathlib.Core.List.{List}
+use lib.Dec.{ltb}
+use lib.ListN.{length}
+use Rattle.notation.specs.Choice.{if_then_else_}
+use Rattle.refusals.specs.Refusals.{refusedForm}
+use Rattle.sizes.specs.Sizes.{steps}
+use Rattle.split.specs.Split.{lineFeed, before, split}
+use Rattle.steps.specs.declared.Order.{Order}
+use Rattle.steps.specs.Steps.{freshOrder, refusalAtEnd}
+use Rattle.check_lines.specs.declared.Line.{Line}
+use Rattle.check_lines.specs.declared.Line.the-variants.{Malformed, Says}
+use Rattle.check_lines.specs.CheckLines.{lineSays}
+use Rattle.symbolic.specs.Symbolic.{Symbols, freshSymbols, carriedAll, Taking, taking, taken}
+use Rattle.verdict.specs.Verdict.{decided}
+use Rattle.check_sheets.specs.declared.Run.{Run}
+use Rattle.check_sheets.specs.declared.Run.the-variants.{Refused, Decided}
+use Rattle.check_sheets.specs.CheckSheets.{Reading, bad, reads, readFrom, reading}
+
+-- how far a line comes
+abbrev pub saidTaken : Order → Symbols → Line → Taking
+saidTaken order s Malformed = taking order s refusedForm
+saidTaken order s (Says line) = taken order s line
+
+unfoldable pub lineTaken : Order → Symbols → List ℕ → Taking
+lineTaken order s line = saidTaken order s (lineSays line)
+
+-- what the run tells of lines that are read from an order and symbols on
+abbrev pub runFrom : Order → Symbols → Reading → Run
+runFrom order s (bad number refusal) = Refused number refusal
+runFrom order s (reads lines) = Decided (decided (carriedAll order s lines))
+
+abbrev pub runOf : Reading → Run
+runOf r = runFrom freshOrder freshSymbols r
+
+-- what is told of the last part, where the lines before it have a verdict
+unfoldable pub lastRun : Order → ℕ → List ℕ → Bool → Run
+lastRun order number left right =
+    if ltb 0 (length left)
+    then Refused number refusedForm
+    else if ltb 0 (refusalAtEnd order) then Refused (number - 1) (refusalAtEnd order) else Decided right
+
+-- between two lines: what is left of the sheet, run from here on, makes the run of the whole sheet
+pub record Going (sheet : List ℕ) (order : Order) (s : Symbols) (rest : List ℕ) (end number : ℕ) : Type 0 where
+  pub tells : runFrom order s (readFrom order number (split lineFeed rest)) ≡ runOf (reading sheet)
+  pub ends : end ≡ length (before lineFeed rest)
+  pub lines : number + length rest ≤ length sheet + 1
+  pub few : order .steps ≤ steps

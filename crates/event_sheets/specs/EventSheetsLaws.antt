@@ -1,0 +1,168 @@
+-- Laws of the answer: there is one, its lines come in order, the first bad one decides, and it stays within the room.
+use Prim.Native.Nat.{ℕ, suc, _+_, _≤_, _<_}
+use mathlib.Core.Path.{_≡_, refl, ap, sym, _∙_}
+use mathlib.Core.Bool.{Bool, true, false, not, _&&_}
+use mathlib.Core.List.{List, [], _∷_, _++_, append-assoc}
+use native.Mathlib.Nat.{add-zero}
+use native.Mathlib.Omega.{arith}
+use lib.Dec.{ltb}
+use lib.ListN.{length, drop, length-append, length-drop}
+use borrow.Author.Tests.{ltb-false, not-true}
+use Rattle.notation.specs.Choice.{if_then_else_}
+use Rattle.notation.specs.ChoiceLaws.{both-true}
+use Rattle.refusals.specs.Refusals.{refusedFull, refusedRoom}
+use Rattle.sizes.specs.Sizes.{sheetBytes}
+use Rattle.split.specs.Split.{lineFeed, split}
+use Rattle.debray_allocator.specs.declared.State.{State}
+use Rattle.debray_allocator.specs.declared.Answer.{Answer}
+use Rattle.debray_allocator.specs.State.{freshState}
+use Rattle.answers.specs.Answers.{answerText}
+use Rattle.answered.specs.declared.Answered.{Answered}
+use Rattle.answered.specs.declared.Answered.the-variants.{Written, Refused}
+use Rattle.answered.specs.Answered.{filledBy}
+use Rattle.event_sheets.specs.EventSheets.{Ran, refusedAt, behind, lineAnswer, lineRan, ran, sheetRan, answeredBy, answered, filled}
+use Rattle.event_sheets.specs.RunningLaws.{ran-refused, ran-accepted}
+
+-- ---- No second answer fits
+
+pub answer-unique :
+    (sheet out : List ℕ) {a b : Answered} {after after′ : List ℕ}
+    → a ≡ answered sheet (length out)
+    → after ≡ filled sheet out
+    → b ≡ answered sheet (length out)
+    → after′ ≡ filled sheet out
+    → (a ≡ b) × (after ≡ after′)
+answer-unique sheet out a after b after′ = (a ∙ sym b, after ∙ sym after′)
+
+-- ---- The lines in order
+
+-- lines carried out one after the other: the state behind them, their text, and whether none is refused
+pub record Carried : Type 0 where
+  pub state : State
+  pub text : List ℕ
+  pub accepts : Bool
+
+abbrev pub lineFirst : Answer → Carried → Carried
+lineFirst a later =
+    record {
+      state = later .state;
+      text = answerText (a .code) (a .at) ++ later .text;
+      accepts = not (ltb 0 (a .refusal)) && later .accepts;
+    }
+
+unfoldable pub carriedLines : State → List (List ℕ) → Carried
+carriedLines s [] = record { state = s; text = []; accepts = true }
+carriedLines s (line ∷ lines) = lineFirst (lineAnswer s line) (carriedLines (lineAnswer s line .state) lines)
+
+ran-before :
+    (s : State) (number : ℕ) (line : List ℕ) (lines : List (List ℕ)) (next : List ℕ) (others : List (List ℕ))
+    → ran s number (line ∷ (lines ++ (next ∷ others)))
+    ≡ lineRan number (lineAnswer s line) (λ after. ran after (suc number) (lines ++ (next ∷ others)))
+unfolding ran
+ran-before s number line [] next others = refl
+ran-before s number line (second ∷ lines) next others = refl
+
+behind-behind : (first second : List ℕ) (r : Ran) → behind first (behind second r) ≡ behind (first ++ second) r
+behind-behind first second r =
+    ap (λ text. record { text = text; line = r .line; refusal = r .refusal }) (sym (append-assoc first second (r .text)))
+
+-- what lines that are not refused print stands first, and the lines behind them are run from the state that they leave
+pub lines-in-order :
+    (lines : List (List ℕ)) (s : State) (number : ℕ) (next : List ℕ) (others : List (List ℕ))
+    → carriedLines s lines .accepts ≡ true
+    → ran s number (lines ++ (next ∷ others))
+    ≡ behind (carriedLines s lines .text) (ran (carriedLines s lines .state) (number + length lines) (next ∷ others))
+unfolding carriedLines
+lines-in-order [] s number next others h = ap (λ k. ran s k (next ∷ others)) (sym (add-zero number))
+lines-in-order (line ∷ lines) s number next others h =
+    let b = both-true (not (ltb 0 (lineAnswer s line .refusal))) (carriedLines (lineAnswer s line .state) lines .accepts) h in
+    let good = ltb-false 0 (lineAnswer s line .refusal) (not-true _ (b .0)) in
+    let later = lines-in-order lines (lineAnswer s line .state) (suc number) next others (b .1) in
+    let text = answerText (lineAnswer s line .code) (lineAnswer s line .at) in
+    let n : suc number + length lines ≡ number + suc (length lines) = omega arith in
+    ran-before s number line lines next others
+    ∙ ran-accepted number _ (lineAnswer s line) good
+    ∙ ap (behind text) later
+    ∙ behind-behind text (carriedLines (lineAnswer s line .state) lines .text) _
+    ∙ ap (λ k. behind (text ++ carriedLines (lineAnswer s line .state) lines .text) (ran (carriedLines (lineAnswer s line .state) lines .state) k (next ∷ others))) n
+
+-- so the first bad line decides, whatever stands behind it
+pub first-bad-decides :
+    (lines : List (List ℕ)) (s : State) (number : ℕ) (line next : List ℕ) (others : List (List ℕ))
+    → carriedLines s lines .accepts ≡ true
+    → 0 < lineAnswer (carriedLines s lines .state) line .refusal
+    → ran s number (lines ++ (line ∷ (next ∷ others)))
+    ≡ behind (carriedLines s lines .text) (refusedAt (number + length lines) (lineAnswer (carriedLines s lines .state) line .refusal))
+first-bad-decides lines s number line next others h bad =
+    lines-in-order lines s number line (next ∷ others) h
+    ∙ ap (behind (carriedLines s lines .text))
+    (ran-before (carriedLines s lines .state) (number + length lines) line [] next others
+    ∙ ran-refused (number + length lines) _ (lineAnswer (carriedLines s lines .state) line) bad)
+
+-- of a sheet: its text begins with what its first lines print, whatever stands behind them
+pub sheet-in-order :
+    (sheet : List ℕ) (lines : List (List ℕ)) (next : List ℕ) (others : List (List ℕ))
+    → split lineFeed sheet ≡ lines ++ (next ∷ others)
+    → carriedLines freshState lines .accepts ≡ true
+    → sheetRan sheet
+    ≡ behind (carriedLines freshState lines .text) (ran (carriedLines freshState lines .state) (1 + length lines) (next ∷ others))
+unfolding sheetRan
+sheet-in-order sheet lines next others parts h = ap (ran freshState 1) parts ∙ lines-in-order lines freshState 1 next others h
+
+-- ---- Within the room
+
+Within : ℕ → List ℕ → Answered → Type 0
+Within room text a = (count : ℕ) → a ≡ Written count → (count ≤ room) × (count ≡ length text)
+
+refused-within : (room : ℕ) (text : List ℕ) (line refusal : ℕ) → Within room text (Refused line refusal)
+unfolding Within
+refused-within room text line refusal count e = let z : _≡_ {A = ℕ} 0 1 = cc in absurd (omega arith)
+
+fits-within : (r : Ran) (room : ℕ) → Within room (r .text) (answeredBy r room)
+unfolding answeredBy Within
+fits-within r room =
+    elim (ltb 0 (r .refusal)) as
+    (λ t. Within room (r .text) (if t then Refused (r .line) (r .refusal) else if ltb room (length (r .text)) then Refused 0 refusedRoom else Written (length (r .text)))) [
+      | true ↦ refused-within room (r .text) (r .line) (r .refusal)
+      | false ↦ elim (ltb room (length (r .text))) as
+          (λ t. ltb room (length (r .text)) ≡ t → Within room (r .text) (if t then Refused 0 refusedRoom else Written (length (r .text)))) [
+            | true ↦ λ e. refused-within room (r .text) 0 refusedRoom
+            | false ↦ λ e count w. (let n : length (r .text) ≡ count = cc in
+                (omega (arith, ltb-false room (length (r .text)) e), sym n))
+          ]
+          refl
+    ]
+
+answered-within : (sheet : List ℕ) (room : ℕ) → Within room (sheetRan sheet .text) (answered sheet room)
+unfolding answered
+answered-within sheet room =
+    elim (ltb sheetBytes (length sheet)) as
+    (λ t. Within room (sheetRan sheet .text) (if t then Refused 0 refusedFull else answeredBy (sheetRan sheet) room))
+    [ true ↦ refused-within room (sheetRan sheet .text) 0 refusedFull | false ↦ fits-within (sheetRan sheet) room ]
+
+-- the count of bytes is the text's, and there is room for it
+pub written-within :
+    (sheet : List ℕ) (room count : ℕ) → answered sheet room ≡ Written count
+    → (count ≤ room) × (count ≡ length (sheetRan sheet .text))
+unfolding Within
+written-within sheet room count e = answered-within sheet room count e
+
+filledBy-length :
+    (text out : List ℕ) (a : Answered) → Within (length out) text a → length (filledBy a text out) ≡ length out
+unfolding Within
+filledBy-length text out (Written count) w =
+    let h = w count refl in
+    omega (arith, length-append text (drop count out), length-drop count out, h .0, h .1)
+filledBy-length text out (Refused line refusal) w = refl
+
+-- the lent bytes stay as many
+pub filled-length : (sheet out : List ℕ) → length (filled sheet out) ≡ length out
+unfolding filled
+filled-length sheet out =
+    filledBy-length (sheetRan sheet .text) out (answered sheet (length out)) (answered-within sheet (length out))
+
+-- and a refusal leaves each of them as it was
+pub refused-untouched :
+    (sheet out : List ℕ) (line refusal : ℕ) → answered sheet (length out) ≡ Refused line refusal → filled sheet out ≡ out
+unfolding filled
+refused-untouched sheet out line refusal e = ap (λ a. filledBy a (sheetRan sheet .text) out) e

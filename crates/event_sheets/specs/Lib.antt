@@ -1,0 +1,5 @@
+pub mod EventSheets
+pub mod Running
+pub mod RunningLaws
+pub mod AnswerLaws
+pub mod EventSheetsLaws

@@ -1,0 +1,5 @@
+pub mod Known
+pub mod Table
+pub mod EventComputing
+pub mod CheckComputing
+pub mod TableLaws

@@ -1,0 +1,36 @@
+-- The sheets with known ends that document 01 marks with P, in its order, on bytes in and bytes out.
+use mathlib.Core.List.{List, [], _∷_}
+use Rattle.bit_set.specs.BitSet.{emptySet, inserted}
+use Rattle.known_sheets.specs.Known.{Known, eventSheet, checkSheet, noUseSets, conflictSets}
+
+abbrev pub table : List Known
+table =
+    -- 1
+    eventSheet "temp\tl1\t1\tl1:2\nperm\t1\nhead\t0\t1\nvar\tf\ts\th\t0\nvar\tf\ts\th\t1\n" "at\tx1\nget_variable\ty1\t2\nat\ty1\nend\t3\t1\n"
+    -- 2
+    ∷ noUseSets "temp\tl1\t1\tl1:2\ntemp\tl1\t1\tl1:2\nsets\n" (emptySet ∷ inserted emptySet 2 ∷ [])
+    ∷ eventSheet "temp\tl1\t1\tl1:2\ntemp\tl1\t1\tl1:2\nsets\nargs\t2\nvar\tq\td\tl1\t1\n" "set_variable\tx2\nat\tx2\nend\t3\t0\n"
+    -- 3
+    ∷ conflictSets "temp\tl1\t1\tl1:1,l1:4,l1:5\nsets\n" (inserted emptySet 2 ∷ [])
+    -- 4
+    ∷ eventSheet "temp\tl1\t1\tl1:1\nargs\t2\nvar\tq\ts\tl1\t0\n" "put_variable\tx1\t1\nat\tx1\nend\t3\t0\n"
+    -- 5
+    ∷ eventSheet "temp\tl1\t3\t-\ntemp\tl1\t3\t-\nhead\t0\nvar\tf\ts\th\t0\nargs\t2\nvar\tq\ts\tl1\t1\n" "at\tx1\nget_variable\tx3\t1\nput_variable\tx4\t1\nat\tx4\nend\t3\t0\n"
+    -- 6
+    ∷ eventSheet "perm\t1\nperm\t1\nargs\t1\nvar\tq\ts\tm1\t0\nfree\t1\t0\nargs\t1\nvar\tq\ts\tm1\t1\n" "put_variable\ty1\t1\nat\ty1\nput_variable\ty2\t1\nat\ty2\nend\t2\t2\n"
+    ∷ eventSheet "perm\t1\nperm\t1\nargs\t1\nvar\tq\ts\tm1\t0\nfree\t1\t0\nargs\t1\nvar\tq\ts\tm2\t1\n" "put_variable\ty1\t1\nat\ty1\nput_variable\ty1\t1\nat\ty1\nend\t2\t1\n"
+    -- 7
+    ∷ eventSheet "perm\t3\nargs\t1\nvar\tq\ts\tm1\t0\ntail\t1\nargs\t1\nvar\tq\ts\tl1\t0\nargs\t1\nvar\tq\ts\tl1\t0\n" "put_variable\ty1\t1\nat\ty1\nput_unsafe_value\ty1\t1\nat\ty1\nput_value\ty1\t1\nat\ty1\nend\t2\t1\n"
+    -- 8
+    ∷ eventSheet "perm\t1\ntemp\tl1\t1\tl1:1\nargs\t2\nvar\tq\ts\tl1\t0\nvar\tq\ts\tl1\t1\n" "put_variable\ty1\t1\nat\ty1\nput_variable\tx3\t2\nat\tx3\nend\t3\t1\n"
+    -- 10
+    ∷ checkSheet "h\t1\t0\nh\t2\t0\nget_value\tx1\t2\n" "accepted\n"
+    ∷ checkSheet "h\t1\t0\nh\t2\t0\nget_value\tx2\t1\n" "accepted\n"
+    ∷ checkSheet "h\t1\t0\nh\t2\t0\n" "rejected\n"
+    -- 11
+    ∷ checkSheet "h\t1\t0\ng\t1\t1\nput_variable\tx4\t1\ng\t2\t0\nput_value\tx1\t2\ncall\n" "rejected\n"
+    ∷ checkSheet "h\t1\t0\ng\t1\t1\nget_variable\tx3\t1\nput_variable\tx4\t1\ng\t2\t0\nput_value\tx3\t2\ncall\n" "accepted\n"
+    -- 13
+    ∷ eventSheet "" "end\t1\t0\n"
+    ∷ checkSheet "" "accepted\n"
+    ∷ []

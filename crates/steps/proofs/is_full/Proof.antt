@@ -1,0 +1,26 @@
+-- `steps::is_full`: each way of the code is a case of the definition. Assumes nothing.
+use borrow.Author.Needs.{needs}
+use Rattle.steps.proofs.is_full.Statement.{statement}
+use Rattle.steps.proofs.is_full.Tie as tie
+
+enum-told : tie.Need-enum-told
+enum-told c = search needs
+
+cast-result : tie.Need-cast-result
+cast-result c = search needs
+
+enum-told-2 : tie.Need-enum-told-2
+enum-told-2 c = search needs
+
+cast-result-2 : tie.Need-cast-result-2
+cast-result-2 c = search needs
+
+returns : tie.Need-returns
+returns c = simp (c .before .enum-told .given .1)
+
+returns-2 : tie.Need-returns-2
+returns-2 c = simp (c .before .enum-told2 .given .1)
+
+pub is-full-spec : {M : Type 1} → statement M
+is-full-spec =
+    tie.close (tie.spec enum-told cast-result enum-told-2 cast-result-2 returns returns-2)

@@ -1,0 +1,47 @@
+-- `steps::judge`: an accepted line is not one too many, and a refused one keeps the order. Assumes nothing.
+use mathlib.Core.Path.{sym, _∙_}
+use borrow.Author.Tests.{eq-eqb, ne-eqb}
+use borrow.Author.Needs.{needs}
+use Rattle.steps.specs.StepsLaws.{judged-refusal, line-has-room}
+use Rattle.steps.specs.Steps.{judged, judgedAs}
+use Rattle.steps.proofs.judge.Statement.{statement}
+use Rattle.steps.proofs.judge.Tie as tie
+
+refusal-of-requires : tie.Need-refusal-of-requires
+refusal-of-requires c κs = search needs
+
+following-requires : tie.Need-following-requires
+following-requires c κs =
+    let a = c .before .before .args in
+    line-has-room (a .order) (a .line) (judged-refusal (a .order) (a .line) ∙ sym (c .before .refusal-of .ensures) ∙ c .if1 .taken)
+
+with-refusal-requires : tie.Need-with-refusal-requires
+with-refusal-requires c κs = search needs
+
+returns : tie.Need-returns
+unfolding judged judgedAs
+returns c =
+    simp (
+      ← c .before .before .before .refusal-of .ensures,
+      eq-eqb _ _ (c .before .before .if1 .taken),
+      ← c .before .following .ensures,
+      c .with-refusal .ensures,
+    )
+
+with-refusal-requires-2 : tie.Need-with-refusal-requires-2
+with-refusal-requires-2 c κs = search needs
+
+returns-2 : tie.Need-returns-2
+unfolding judged judgedAs
+returns-2 c = simp (← c .before .before .refusal-of .ensures, ne-eqb _ _ (c .before .if1 .left), c .with-refusal2 .ensures)
+
+pub judge-spec : {M : Type 1} → statement M
+judge-spec =
+    tie.close
+    (tie.spec
+    refusal-of-requires
+    following-requires
+    with-refusal-requires
+    returns
+    with-refusal-requires-2
+    returns-2)

@@ -1,0 +1,376 @@
+// A line of a check sheet, and what refuses it: the lines before it, its numbers, and what is full.
+ghost use Prim.Native.Nat.{_<_};
+ghost use mathlib.Core.Path.{_≡_};
+ghost use mathlib.Core.Bool.{false, _&&_, _||_};
+ghost use Rattle.sizes.specs.Sizes.{steps as stepLines, instructions as stepInstructions};
+ghost use Rattle.steps.specs.Steps.{
+  kindOf,
+  isPutOrSet,
+  isGetValueOrUnify,
+  takesNumber,
+  headTooLate,
+  sameArgumentTwice,
+  misplaced,
+  instructionOutOfOrder,
+  isOutOfOrder,
+  placeFits,
+  stepFits,
+  instructionFits,
+  fits,
+  isFull,
+  refusalOf,
+  freshOrder,
+  goalAfter,
+  begun,
+  done,
+  following,
+  withRefusal,
+  judged,
+  refusalAtEnd,
+};
+use bit_set::BitSet;
+use instructions::Instruction;
+use registers::RegType;
+use sizes::INSTRUCTIONS;
+use sizes::STEPS;
+use sizes::VARIABLES;
+
+// The kinds of step.
+pub const NO_STEP: u32 = 0;
+
+pub const HEAD_STEP: u32 = 1;
+
+pub const GOAL_STEP: u32 = 2;
+
+pub const CALL_STEP: u32 = 3;
+
+// A step line: argument k or a deep subterm is variable v, in the head or in a goal; or the goal is called.
+pub enum Step {
+    Head(u32, u32),
+    HeadDeep(u32),
+    Goal(u32, u32),
+    GoalDeep(u32),
+    Call,
+}
+
+// A step line, or an instruction under the last one.
+pub enum CheckLine {
+    Begins(Step),
+    Does(Instruction),
+}
+
+// What the lines so far say of the next one: how many step lines there are; the kind of the last one, how many instructions
+// stand under it, and whether one of them takes the step's number; and the arguments of the goal since the last `call`.
+pub struct Order {
+    pub steps: u32,
+    pub kind: u32,
+    pub instructions: u32,
+    pub number_taken: bool,
+    pub goal: BitSet,
+}
+
+// The lines' order with a line that is accepted, or as it was; and the line's refusal.
+pub struct Judged {
+    pub order: Order,
+    pub refusal: u32,
+}
+
+// Before the first line.
+pub fn fresh_order() -> Order
+    ensures { λ r. ⌜ r ≡ freshOrder ⌝ }
+{
+    Order {
+        steps: 0,
+        kind: NO_STEP,
+        instructions: 0,
+        number_taken: false,
+        goal: bit_set::empty(),
+    }
+}
+
+// Whether two things hold.
+fn both(first: bool, second: bool) -> bool
+    ensures { λ r. ⌜ r ≡ (first && second) ⌝ }
+{
+    if first {
+        return second;
+    }
+    false
+}
+
+// Whether one of two things holds.
+fn either(first: bool, second: bool) -> bool
+    ensures { λ r. ⌜ r ≡ (first || second) ⌝ }
+{
+    if first {
+        return true;
+    }
+    second
+}
+
+// ---- Order
+
+// The kind of a step.
+fn kind_of(step: Step) -> u32
+    ensures { λ r. ⌜ r ≡ kindOf step ⌝ }
+{
+    match step {
+        Step::Head(_, _) => HEAD_STEP,
+        Step::HeadDeep(_) => HEAD_STEP,
+        Step::Goal(_, _) => GOAL_STEP,
+        Step::GoalDeep(_) => GOAL_STEP,
+        Step::Call => CALL_STEP,
+    }
+}
+
+// Whether an instruction's number is that of a Put or a Set.
+fn is_put_or_set(number: u32) -> bool
+    ensures { λ r. ⌜ r ≡ isPutOrSet number ⌝ }
+{
+    match number {
+        0..=1 => false,
+        2..=7 => true,
+        8.. => false,
+    }
+}
+
+// Whether it is that of `get_value` or a Unify.
+fn is_get_value_or_unify(number: u32) -> bool
+    ensures { λ r. ⌜ r ≡ isGetValueOrUnify number ⌝ }
+{
+    match number {
+        0 => false,
+        1 => true,
+        2..=7 => false,
+        8.. => true,
+    }
+}
+
+// Whether it is that of `put_variable`, `set_variable` or a Unify: these take the step's number.
+fn takes_number(number: u32) -> bool
+    ensures { λ r. ⌜ r ≡ takesNumber number ⌝ }
+{
+    match number {
+        2 => true,
+        5 => true,
+        8.. => true,
+        _ => false,
+    }
+}
+
+// Whether a head step comes after a goal step or a call.
+fn head_too_late(order: Order, step: Step) -> bool
+    ensures { λ r. ⌜ r ≡ headTooLate order step ⌝ }
+{
+    both(kind_of(step) == HEAD_STEP, GOAL_STEP <= order.kind)
+}
+
+// Whether a goal step has an argument that the goal has already.
+fn same_argument_twice(order: Order, step: Step) -> bool
+    ensures { λ r. ⌜ r ≡ sameArgumentTwice order step ⌝ }
+{
+    match step {
+        Step::Goal(k, _) => bit_set::contains(order.goal, k),
+        Step::Head(_, _) => false,
+        Step::HeadDeep(_) => false,
+        Step::GoalDeep(_) => false,
+        Step::Call => false,
+    }
+}
+
+// Whether an instruction may not stand under a step of a kind.
+fn is_misplaced(kind: u32, number: u32) -> bool
+    ensures { λ r. ⌜ r ≡ misplaced kind number ⌝ }
+{
+    match kind {
+        HEAD_STEP => is_put_or_set(number),
+        GOAL_STEP => is_get_value_or_unify(number),
+        CALL_STEP => true,
+        _ => false,
+    }
+}
+
+// Whether an instruction is out of order.
+fn is_instruction_out_of_order(order: Order, instruction: Instruction) -> bool
+    ensures { λ r. ⌜ r ≡ instructionOutOfOrder order instruction ⌝ }
+{
+    let code = instructions::code_of(instruction);
+    let number = code.number;
+    if order.steps == 0 {
+        return true;
+    }
+    if is_misplaced(order.kind, number) {
+        return true;
+    }
+    both(order.number_taken, takes_number(number))
+}
+
+// Whether a line is out of order.
+fn is_out_of_order(order: Order, line: CheckLine) -> bool
+    ensures { λ r. ⌜ r ≡ isOutOfOrder order line ⌝ }
+{
+    match line {
+        CheckLine::Begins(step) => either(
+            head_too_late(order, step),
+            same_argument_twice(order, step),
+        ),
+        CheckLine::Does(instruction) => is_instruction_out_of_order(order, instruction),
+    }
+}
+
+// ---- Sizes
+
+// Whether a place is a register or a slot that there is.
+fn place_fits(place: RegType) -> bool
+    ensures { λ r. ⌜ r ≡ placeFits place ⌝ }
+{
+    match place {
+        RegType::Temp(r) => sizes::is_register(r),
+        RegType::Perm(r) => sizes::is_register(r),
+    }
+}
+
+// Whether every number of a step line is inside its size.
+fn step_fits(step: Step) -> bool
+    ensures { λ r. ⌜ r ≡ stepFits step ⌝ }
+{
+    match step {
+        Step::Head(k, v) => both(sizes::is_register(k), v < VARIABLES as u32),
+        Step::HeadDeep(v) => v < VARIABLES as u32,
+        Step::Goal(k, v) => both(sizes::is_register(k), v < VARIABLES as u32),
+        Step::GoalDeep(v) => v < VARIABLES as u32,
+        Step::Call => true,
+    }
+}
+
+// Whether every number of an instruction is inside its size.
+fn instruction_fits(instruction: Instruction) -> bool
+    ensures { λ r. ⌜ r ≡ instructionFits instruction ⌝ }
+{
+    let code = instructions::code_of(instruction);
+    let number = code.number;
+    let place = code.place;
+    match number {
+        0..=4 => both(place_fits(place), sizes::is_register(code.argument)),
+        5.. => place_fits(place),
+    }
+}
+
+// Whether every number of a line is inside its size.
+fn fits(line: CheckLine) -> bool
+    ensures { λ r. ⌜ r ≡ fits line ⌝ }
+{
+    match line {
+        CheckLine::Begins(step) => step_fits(step),
+        CheckLine::Does(instruction) => instruction_fits(instruction),
+    }
+}
+
+// ---- Judgement
+
+// Whether a line is one step line too many, or one instruction of its step.
+fn is_full(order: Order, line: CheckLine) -> bool
+    ensures { λ r. ⌜ r ≡ isFull order line ⌝ }
+{
+    match line {
+        CheckLine::Begins(_) => STEPS as u32 <= order.steps,
+        CheckLine::Does(_) => INSTRUCTIONS as u32 <= order.instructions,
+    }
+}
+
+// The refusal of a line: by its order, then by its sizes, then by what is full.
+fn refusal_of(order: Order, line: CheckLine) -> u32
+    ensures { λ r. ⌜ r ≡ refusalOf order line ⌝ }
+{
+    if is_out_of_order(order, line) {
+        return refusals::ORDER;
+    }
+    if !fits(line) {
+        return refusals::SIZE;
+    }
+    if is_full(order, line) {
+        return refusals::FULL;
+    }
+    refusals::ACCEPTED
+}
+
+// The arguments of the goal with a step's; `call` ends the goal.
+fn goal_after(goal: BitSet, step: Step) -> BitSet
+    ensures { λ r. ⌜ r ≡ goalAfter goal step ⌝ }
+{
+    match step {
+        Step::Goal(k, _) => bit_set::insert(goal, k),
+        Step::Call => bit_set::empty(),
+        Step::Head(_, _) => goal,
+        Step::HeadDeep(_) => goal,
+        Step::GoalDeep(_) => goal,
+    }
+}
+
+// The order with a step line.
+fn begun(order: Order, step: Step) -> Order
+    requires { ⌜ order .steps < stepLines ⌝ }
+    ensures { λ r. ⌜ r ≡ begun order step ⌝ }
+{
+    Order {
+        steps: order.steps + 1,
+        kind: kind_of(step),
+        instructions: 0,
+        number_taken: false,
+        goal: goal_after(order.goal, step),
+    }
+}
+
+// The order with an instruction.
+fn done(order: Order, instruction: Instruction) -> Order
+    requires { ⌜ order .instructions < stepInstructions ⌝ }
+    ensures { λ r. ⌜ r ≡ done order instruction ⌝ }
+{
+    let code = instructions::code_of(instruction);
+    Order {
+        steps: order.steps,
+        kind: order.kind,
+        instructions: order.instructions + 1,
+        number_taken: either(order.number_taken, takes_number(code.number)),
+        goal: order.goal,
+    }
+}
+
+// An order and a refusal.
+fn with_refusal(order: Order, refusal: u32) -> Judged
+    ensures { λ r. ⌜ r ≡ withRefusal order refusal ⌝ }
+{
+    Judged { order, refusal }
+}
+
+// The order with a line that is accepted.
+fn following(order: Order, line: CheckLine) -> Order
+    requires { ⌜ isFull order line ≡ false ⌝ }
+    ensures { λ r. ⌜ r ≡ following order line ⌝ }
+{
+    match line {
+        CheckLine::Begins(step) => begun(order, step),
+        CheckLine::Does(instruction) => done(order, instruction),
+    }
+}
+
+// The refusal of the next line, and the order with it where it is accepted.
+pub fn judge(order: Order, line: CheckLine) -> Judged
+    ensures { λ r. ⌜ r ≡ judged order line ⌝ }
+{
+    let refusal = refusal_of(order, line);
+    if refusal == refusals::ACCEPTED {
+        return with_refusal(following(order, line), refusal);
+    }
+    with_refusal(order, refusal)
+}
+
+// The refusal of a sheet that ends here: goal steps have no `call` after them.
+pub fn refusal_at_end(order: Order) -> u32
+    ensures { λ r. ⌜ r ≡ refusalAtEnd order ⌝ }
+{
+    if order.kind == GOAL_STEP {
+        return refusals::ORDER;
+    }
+    refusals::ACCEPTED
+}

@@ -1,0 +1,4 @@
+pub mod Names
+pub mod Symbolic
+pub mod Tables
+pub mod TablesLaws

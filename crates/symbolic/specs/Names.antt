@@ -1,0 +1,24 @@
+-- Names: a number for each thing that can be chosen, the entry content of a place and the number of a step.
+use Prim.Native.Nat.{ℕ, _+_, _*_}
+use Rattle.sizes.specs.Sizes.{registers, variables, steps, instructions}
+use Rattle.registers.specs.declared.RegType.{RegType}
+use Rattle.registers.specs.declared.RegType.the-variants.{Temp, Perm}
+
+abbrev pub placeName : RegType → ℕ
+placeName (Temp r) = 3 * r
+placeName (Perm r) = 3 * r + 1
+
+abbrev pub stepName : ℕ → ℕ
+stepName step = 3 * step + 2
+
+-- cells for the contents of the places, each at its name
+abbrev pub placeCells : ℕ
+placeCells = 3 * (registers + 1)
+
+-- in the place of a variable's value that no step has fixed
+abbrev pub noName : ℕ
+noName = 3 * (steps + 1)
+
+-- cells for pairs: two for each line of a sheet, a step line and its instructions for each step
+abbrev pub pairCells : ℕ
+pairCells = 2 * (steps * (instructions + 1))
