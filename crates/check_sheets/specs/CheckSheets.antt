@@ -63,7 +63,7 @@ acceptedText = bytes "accepted\n"
 abbrev pub rejectedText : List ℕ
 rejectedText = bytes "rejected\n"
 
--- the verdict on the lines; `Right` decides it (CheckSheetsLaws)
+-- the verdict on the lines; `Right` decides it (JudgingLaws)
 unfoldable pub verdict : List CheckLine → Bool
 verdict lines = decided (carriedAll freshOrder freshSymbols lines)
 

@@ -4,3 +4,4 @@ pub mod Running
 pub mod RunningLaws
 pub mod AnswerLaws
 pub mod JudgingLaws
+pub mod CheckSheetsLaws

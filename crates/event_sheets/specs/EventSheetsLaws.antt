@@ -1,18 +1,19 @@
 -- Laws of the answer: there is one, its lines come in order, the first bad one decides, and it stays within the room.
-use Prim.Native.Nat.{ℕ, suc, _+_, _≤_, _<_}
+use Prim.Native.Nat.{ℕ, suc, _+_, _-_, _≤_, _<_}
 use mathlib.Core.Path.{_≡_, refl, ap, sym, _∙_}
 use mathlib.Core.Bool.{Bool, true, false, not, _&&_}
 use mathlib.Core.List.{List, [], _∷_, _++_, append-assoc}
 use native.Mathlib.Nat.{add-zero}
 use native.Mathlib.Omega.{arith}
 use lib.Dec.{ltb}
-use lib.ListN.{length, drop, length-append, length-drop}
+use lib.ListN.{length}
 use borrow.Author.Tests.{ltb-false, not-true}
 use Rattle.notation.specs.Choice.{if_then_else_}
 use Rattle.notation.specs.ChoiceLaws.{both-true}
-use Rattle.refusals.specs.Refusals.{refusedFull, refusedRoom}
+use Rattle.refusals.specs.Refusals.{refusedForm, refusedFull, refusedRoom}
 use Rattle.sizes.specs.Sizes.{sheetBytes}
 use Rattle.split.specs.Split.{lineFeed, split}
+use Rattle.split.specs.SplitLaws.{split-le}
 use Rattle.debray_allocator.specs.declared.State.{State}
 use Rattle.debray_allocator.specs.declared.Answer.{Answer}
 use Rattle.debray_allocator.specs.State.{freshState}
@@ -20,7 +21,21 @@ use Rattle.answers.specs.Answers.{answerText}
 use Rattle.answered.specs.declared.Answered.{Answered}
 use Rattle.answered.specs.declared.Answered.the-variants.{Written, Refused}
 use Rattle.answered.specs.Answered.{filledBy}
-use Rattle.event_sheets.specs.EventSheets.{Ran, refusedAt, behind, lineAnswer, lineRan, ran, sheetRan, answeredBy, answered, filled}
+use Rattle.answered.specs.AnsweredLaws.{Within, written-bound, refused-bound, filledBy-length}
+use Rattle.event_sheets.specs.EventSheets.{
+  Ran,
+  refusedAt,
+  behind,
+  ended,
+  lastRan,
+  lineAnswer,
+  lineRan,
+  ran,
+  sheetRan,
+  answeredBy,
+  answered,
+  filled,
+}
 use Rattle.event_sheets.specs.RunningLaws.{ran-refused, ran-accepted}
 
 -- ---- No second answer fits
@@ -109,57 +124,64 @@ pub sheet-in-order :
 unfolding sheetRan
 sheet-in-order sheet lines next others parts h = ap (ran freshState 1) parts ∙ lines-in-order lines freshState 1 next others h
 
--- ---- Within the room
+-- ---- Within the room, and no sheet has more lines than its bytes and one more
 
-Within : ℕ → List ℕ → Answered → Type 0
-Within room text a = (count : ℕ) → a ≡ Written count → (count ≤ room) × (count ≡ length text)
+ran-line : (parts : List (List ℕ)) (s : State) (number : ℕ) → ran s number parts .line ≤ number + length parts - 1
+unfolding ran lastRan lineRan
+ran-line [] s number = omega arith
+ran-line (left ∷ []) s number =
+    elim (ltb 0 (length left)) as
+    (λ t. (if t then refusedAt number refusedForm else ended (s .counters)) .line ≤ number + 1 - 1)
+    [ true ↦ omega arith | false ↦ omega arith ]
+ran-line (line ∷ (next ∷ parts)) s number =
+    elim (ltb 0 (lineAnswer s line .refusal)) as
+    (λ t. (if t then refusedAt number (lineAnswer s line .refusal) else behind (answerText (lineAnswer s line .code) (lineAnswer s line .at)) (ran (lineAnswer s line .state) (suc number) (next ∷ parts))) .line ≤ number + suc (suc (length parts)) - 1) [
+      | true ↦ omega arith
+      | false ↦ omega (arith, ran-line (next ∷ parts) (lineAnswer s line .state) (suc number))
+    ]
 
-refused-within : (room : ℕ) (text : List ℕ) (line refusal : ℕ) → Within room text (Refused line refusal)
-unfolding Within
-refused-within room text line refusal count e = let z : _≡_ {A = ℕ} 0 1 = cc in absurd (omega arith)
+sheet-line : (sheet : List ℕ) → sheetRan sheet .line ≤ length sheet + 1
+unfolding sheetRan
+sheet-line sheet = omega (arith, ran-line (split lineFeed sheet) freshState 1, split-le lineFeed sheet)
 
-fits-within : (r : Ran) (room : ℕ) → Within room (r .text) (answeredBy r room)
-unfolding answeredBy Within
-fits-within r room =
+answeredBy-within : (r : Ran) (room lines : ℕ) → r .line ≤ lines → Within room (r .text) lines (answeredBy r room)
+unfolding answeredBy
+answeredBy-within r room lines h =
     elim (ltb 0 (r .refusal)) as
-    (λ t. Within room (r .text) (if t then Refused (r .line) (r .refusal) else if ltb room (length (r .text)) then Refused 0 refusedRoom else Written (length (r .text)))) [
-      | true ↦ refused-within room (r .text) (r .line) (r .refusal)
+    (λ t. Within room (r .text) lines (if t then Refused (r .line) (r .refusal) else if ltb room (length (r .text)) then Refused 0 refusedRoom else Written (length (r .text)))) [
+      | true ↦ h
       | false ↦ elim (ltb room (length (r .text))) as
-          (λ t. ltb room (length (r .text)) ≡ t → Within room (r .text) (if t then Refused 0 refusedRoom else Written (length (r .text)))) [
-            | true ↦ λ e. refused-within room (r .text) 0 refusedRoom
-            | false ↦ λ e count w. (let n : length (r .text) ≡ count = cc in
-                (omega (arith, ltb-false room (length (r .text)) e), sym n))
+          (λ t. ltb room (length (r .text)) ≡ t → Within room (r .text) lines (if t then Refused 0 refusedRoom else Written (length (r .text)))) [
+            | true ↦ λ e. omega arith
+            | false ↦ λ e. (ltb-false room (length (r .text)) e, refl)
           ]
           refl
     ]
 
-answered-within : (sheet : List ℕ) (room : ℕ) → Within room (sheetRan sheet .text) (answered sheet room)
+pub answered-within : (sheet : List ℕ) (room : ℕ) → Within room (sheetRan sheet .text) (sheetBytes + 1) (answered sheet room)
 unfolding answered
 answered-within sheet room =
     elim (ltb sheetBytes (length sheet)) as
-    (λ t. Within room (sheetRan sheet .text) (if t then Refused 0 refusedFull else answeredBy (sheetRan sheet) room))
-    [ true ↦ refused-within room (sheetRan sheet .text) 0 refusedFull | false ↦ fits-within (sheetRan sheet) room ]
+    (λ t. ltb sheetBytes (length sheet) ≡ t → Within room (sheetRan sheet .text) (sheetBytes + 1) (if t then Refused 0 refusedFull else answeredBy (sheetRan sheet) room)) [
+      | true ↦ λ e. omega arith
+      | false ↦ λ e. answeredBy-within (sheetRan sheet) room (sheetBytes + 1) (omega (arith, sheet-line sheet, ltb-false sheetBytes (length sheet) e))
+    ]
+    refl
 
 -- the count of bytes is the text's, and there is room for it
 pub written-within :
     (sheet : List ℕ) (room count : ℕ) → answered sheet room ≡ Written count
     → (count ≤ room) × (count ≡ length (sheetRan sheet .text))
-unfolding Within
-written-within sheet room count e = answered-within sheet room count e
+written-within sheet room count e = written-bound room _ _ (answered sheet room) (answered-within sheet room) e
 
-filledBy-length :
-    (text out : List ℕ) (a : Answered) → Within (length out) text a → length (filledBy a text out) ≡ length out
-unfolding Within
-filledBy-length text out (Written count) w =
-    let h = w count refl in
-    omega (arith, length-append text (drop count out), length-drop count out, h .0, h .1)
-filledBy-length text out (Refused line refusal) w = refl
+pub line-within : (sheet : List ℕ) (room line refusal : ℕ) → answered sheet room ≡ Refused line refusal → line ≤ sheetBytes + 1
+line-within sheet room line refusal e = refused-bound room _ _ (answered sheet room) (answered-within sheet room) e
 
 -- the lent bytes stay as many
 pub filled-length : (sheet out : List ℕ) → length (filled sheet out) ≡ length out
 unfolding filled
 filled-length sheet out =
-    filledBy-length (sheetRan sheet .text) out (answered sheet (length out)) (answered-within sheet (length out))
+    filledBy-length (sheetRan sheet .text) out (sheetBytes + 1) (answered sheet (length out)) (answered-within sheet (length out))
 
 -- and a refusal leaves each of them as it was
 pub refused-untouched :

@@ -1,0 +1,37 @@
+-- Laws of the numbers: every answer to a sheet can be told as one.
+use Prim.Native.Nat.{ℕ, _≤_, _<_, _^_, _+_}
+use mathlib.Core.Path.{_≡_, refl, sym, subst}
+use mathlib.Core.List.{List}
+use native.Mathlib.Omega.{arith}
+use Rattle.sizes.specs.Sizes.{sheetBytes}
+use Rattle.answered.specs.declared.Answered.{Answered}
+use Rattle.answered.specs.declared.Answered.the-variants.{Written, Refused}
+use Rattle.event_sheets.specs.EventSheets.{answered as answeredEvents}
+use Rattle.event_sheets.specs.EventSheetsLaws.{written-within as events-written, line-within as events-line}
+use Rattle.check_sheets.specs.CheckSheets.{answered as answeredCheck}
+use Rattle.check_sheets.specs.CheckSheetsLaws.{written-within as check-written, line-within as check-line}
+use Rattle.fenomirask.specs.Numbers.{Fits}
+
+-- an answer fits, if its count stays within the room and its line within the sheet
+within-fits :
+    (room : ℕ) (a : Answered) → room < 2 ^ 63
+    → ((count : ℕ) → a ≡ Written count → count ≤ room)
+    → ((line refusal : ℕ) → a ≡ Refused line refusal → line ≤ sheetBytes + 1)
+    → Fits a
+within-fits room (Written count) h counts lines = omega (arith, counts count refl)
+within-fits room (Refused line refusal) h counts lines = lines line refusal refl
+
+module _ (sheet : List ℕ) (room : ℕ) (h : room < 2 ^ 63) {a : Answered} where
+  pub events-fits : a ≡ answeredEvents sheet room → Fits a
+  events-fits e =
+      subst Fits (sym e)
+      (within-fits room (answeredEvents sheet room) h
+      (λ count w. events-written sheet room count w .0)
+      (λ line refusal w. events-line sheet room line refusal w))
+
+  pub check-fits : a ≡ answeredCheck sheet room → Fits a
+  check-fits e =
+      subst Fits (sym e)
+      (within-fits room (answeredCheck sheet room) h
+      (λ count w. check-written sheet room count w .0)
+      (λ line refusal w. check-line sheet room line refusal w))

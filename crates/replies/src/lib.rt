@@ -1,0 +1,55 @@
+// What is printed of a sheet: its answer, or only the line of its refusal.
+ghost use lib.ListN.{length};
+ghost use Rattle.printing.specs.Printing.{Put};
+ghost use Rattle.replies.specs.Replies.{
+  refusalText,
+  eventReply,
+  checkReply,
+  Printable,
+  Told,
+};
+use answered::Answered;
+use sizes::SHEET_BYTES;
+use split::LINE_FEED;
+use split::TAB;
+
+// As many bytes as a program reads: with one more than a sheet may have, a sheet is too long, whatever follows.
+pub const INPUT_BYTES: usize = SHEET_BYTES + 1;
+
+// The line of a refusal: `no`, the line and the refusal's number.
+pub fn put_refusal(out: &mut [u8], at: usize, line: u32, refusal: u32) -> usize
+    ensures { λ r. ⌜ Put (now (out .entry)) at (refusalText line refusal) r (now (out .exit)) ⌝ }
+{
+    let named = printing::put_word(out, at, b"no\t");
+    let numbered = printing::put_number(out, named, line);
+    let parted = printing::put_byte(out, numbered, TAB);
+    let refused = printing::put_number(out, parted, refusal);
+    printing::put_byte(out, refused, LINE_FEED)
+}
+
+// An answer that was written stays as it is; of a refusal its line is put.
+fn put_told(answered: Answered, out: &mut [u8]) -> usize
+    requires { ⌜ Printable answered ⌝ }
+    ensures { λ r. ⌜ Told answered (now (out .entry)) r (now (out .exit)) ⌝ }
+{
+    match answered {
+        Answered::Written(count) => count,
+        Answered::Refused(line, refusal) => put_refusal(out, 0, line as u32, refusal),
+    }
+}
+
+// What is printed of an event sheet. The lent bytes are the room of its answer.
+pub fn put_event_reply(sheet: &[u8], out: &mut [u8]) -> usize
+    ensures { λ r. ⌜ Put (now (out .entry)) 0 (eventReply (now (sheet .entry)) (length (now (out .entry)))) r (now (out .exit)) ⌝ }
+{
+    let answered = event_sheets::answer(sheet, out);
+    put_told(answered, out)
+}
+
+// What is printed of a check sheet. The lent bytes are the room of its answer.
+pub fn put_check_reply(sheet: &[u8], out: &mut [u8]) -> usize
+    ensures { λ r. ⌜ Put (now (out .entry)) 0 (checkReply (now (sheet .entry)) (length (now (out .entry)))) r (now (out .exit)) ⌝ }
+{
+    let answered = check_sheets::answer(sheet, out);
+    put_told(answered, out)
+}

@@ -1,0 +1,3 @@
+pub mod ValidStates
+pub mod Parts
+pub mod ValidStatesLaws

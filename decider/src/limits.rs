@@ -1,0 +1,14 @@
+//! The sizes of document 01 that concern check sheets, by name.
+
+/// A sheet's bytes, and the bytes lent for its answer unless told otherwise.
+pub const SHEET_BYTES: usize = 65_536;
+/// The largest number that has a right form.
+pub const LARGEST_NUMBER: u64 = 4_294_967_295;
+/// Registers and slots run from 1 to this number.
+pub const REGISTERS: u64 = 63;
+/// Variables run from 0 to this number.
+pub const LAST_VARIABLE: u64 = 63;
+/// Step lines of a sheet, `call` counted.
+pub const STEPS: usize = 256;
+/// Instructions of a step.
+pub const INSTRUCTIONS: usize = 4;
