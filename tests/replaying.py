@@ -14,6 +14,9 @@ from collections.abc import Callable
 
 HERE = os.path.dirname(os.path.abspath(__file__))
 ROOT = os.path.dirname(HERE)
+ORACLE = os.path.join(ROOT, "oracle", "target", "release")
+DECIDER = os.path.join(ROOT, "decider", "target", "release")
+CHECK_CASES = [os.path.join(ROOT, "decider", "cases", name) for name in ("known.txt", "examples.txt", "readings.txt")]
 # An emulator carries out the processor's copy instruction byte by byte: without it a program runs many times faster.
 ENVIRONMENT = dict(os.environ, QEMU_CPU="max,-erms")
 SHEET_BYTES = 65_536
@@ -23,11 +26,11 @@ SHOWN = 5
 
 @dataclasses.dataclass
 class Kind:
-    """A kind of sheet: its word, its program, who generates and answers its sheets, and the words of its lines."""
+    """A kind of sheet: its word, its program, where its generator is, who judges its sheets, the words of its lines."""
 
     word: bytes
     program: str
-    generated: Callable
+    generator: str
     judged: Callable
     line_words: list
 
@@ -37,6 +40,11 @@ class Kind:
 
 def output(words, data=b""):
     return subprocess.run(words, input=data, env=ENVIRONMENT, stdout=subprocess.PIPE, check=True).stdout
+
+
+def say(text):
+    """Says something beside what is written."""
+    print(text, file=sys.stderr)
 
 
 def frames(data):
@@ -85,6 +93,28 @@ def lines_read(sheet, answer):
     line, number = refusal(answer)
     lines = sheet.split(b"\n")
     return [] if (line, number) == (0, 7) else lines[: line or len(lines)]
+
+
+# ---- Sheets and answers from elsewhere
+
+
+def generated(folder, seed, count):
+    return frames(output([os.path.join(folder, "generate"), "--seed", str(seed), "--count", str(count)]))
+
+
+def judged_events(sheets, *options):
+    """The original Rust's answers to event sheets."""
+    return frames(output([os.path.join(ORACLE, "oracle"), "--batch", *options], framed(sheets)))
+
+
+def judged_check(sheets):
+    """The decider's answers to check sheets, each one line."""
+    return output([os.path.join(DECIDER, "decider"), "--batch"], framed(sheets)).splitlines(keepends=True)
+
+
+def check_case_sheets():
+    """The sheets of the decider's case files but those that lend another room."""
+    return frames(output([os.path.join(DECIDER, "cases"), "--sheets", *CHECK_CASES]))
 
 
 # ---- The program `replays`
@@ -208,7 +238,7 @@ def run(kind, first, runs, wanted):
     for title, sheets in first:
         compare(kind, title, sheets, counts)
     for seed in seeds:
-        compare(kind, f"seed {seed}", kind.generated(seed, count), counts)
+        compare(kind, f"seed {seed}", generated(kind.generator, seed, count), counts)
     print("answers", ", ".join(f"{answer}: {counts.answers[answer]}" for answer in sorted(counts.answers)))
     print("lines", ", ".join(f"{word.decode()}: {counts.words[word]}" for word in kind.line_words))
     missing = [answer for answer in wanted if not counts.answers[answer]]

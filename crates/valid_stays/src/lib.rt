@@ -1,0 +1,1 @@
+// A valid state stays valid; there is no code here.
