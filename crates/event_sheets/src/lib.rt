@@ -109,7 +109,7 @@ fn carry_line(
 }
 
 // The highest register allocated.
-fn max_reg_allocated(counters: Counters) -> u32
+pub fn max_reg_allocated(counters: Counters) -> u32
     ensures { λ r. ⌜ r ≡ maxRegAllocated counters ⌝ }
 {
     if counters.temp_lb <= counters.arg_c {
@@ -119,7 +119,7 @@ fn max_reg_allocated(counters: Counters) -> u32
 }
 
 // The number of permanent variables.
-fn num_perm_vars(counters: Counters) -> u32
+pub fn num_perm_vars(counters: Counters) -> u32
     ensures { λ r. ⌜ r ≡ numPermVars counters ⌝ }
 {
     if counters.perm_lb < 1 {

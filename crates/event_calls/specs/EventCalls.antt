@@ -1,0 +1,65 @@
+-- One line of an event sheet, given to a state: for every state, every list of bytes and every room.
+use Prim.Native.Nat.{ℕ}
+use mathlib.Core.List.{List, [], _∷_}
+use lib.Dec.{ltb}
+use lib.ListN.{length}
+use Rattle.notation.specs.Choice.{if_then_else_}
+use Rattle.refusals.specs.Refusals.{refusedForm, refusedSize, refusedRoom}
+use Rattle.split.specs.Split.{lineFeed, split}
+use Rattle.debray_allocator.specs.declared.State.{State}
+use Rattle.debray_allocator.specs.declared.Answer.{Answer}
+use Rattle.debray_allocator.specs.DebrayAllocator.{refusedWith}
+use Rattle.answers.specs.Answers.{answerText}
+use Rattle.answered.specs.declared.Answered.{Answered}
+use Rattle.answered.specs.declared.Answered.the-variants.{Written, Refused}
+use Rattle.answered.specs.Answered.{filledBy}
+use Rattle.event_sheets.specs.EventSheets.{lineAnswer, ended, answeredBy}
+use Rattle.valid_states.specs.ValidStates.{isValid}
+use Rattle.event_calls.specs.declared.Called.{Called}
+
+-- ---- A line: bytes with one LF, and nothing behind it
+
+abbrev pub partsAnswer : State → List (List ℕ) → Answer
+partsAnswer s [] = refusedWith s refusedForm
+partsAnswer s (left ∷ []) = refusedWith s refusedForm
+partsAnswer s (line ∷ ([] ∷ [])) = lineAnswer s line
+partsAnswer s (line ∷ ([] ∷ (other ∷ others))) = refusedWith s refusedForm
+partsAnswer s (line ∷ ((byte ∷ more) ∷ others)) = refusedWith s refusedForm
+
+unfoldable pub bytesAnswer : State → List ℕ → Answer
+bytesAnswer s bytes = partsAnswer s (split lineFeed bytes)
+
+-- what the event prints
+abbrev pub textOf : Answer → List ℕ
+textOf a = answerText (a .code) (a .at)
+
+-- ---- The new state and the answer
+
+-- every refusal returns its number and line; the state is untouched
+abbrev pub refusedCall : State → ℕ → ℕ → Called
+refusedCall s line refusal = record { state = s; answered = Refused line refusal }
+
+-- line 1 for a single event call, line 0 for the room, which is tested last
+unfoldable pub calledBy : State → Answer → ℕ → Called
+calledBy s a room =
+    if ltb 0 (a .refusal)
+    then refusedCall s 1 (a .refusal)
+    else if ltb room (length (textOf a))
+    then refusedCall s 0 refusedRoom
+    else record { state = a .state; answered = Written (length (textOf a)) }
+
+-- a state that holds a number outside its size or of no variable is refused before all else
+unfoldable pub called : State → List ℕ → ℕ → Called
+called s bytes room = if isValid s then calledBy s (bytesAnswer s bytes) room else refusedCall s 0 refusedSize
+
+-- the lent bytes afterwards
+unfoldable pub callFilled : State → List ℕ → List ℕ → List ℕ
+callFilled s bytes out = filledBy (called s bytes (length out) .answered) (textOf (bytesAnswer s bytes)) out
+
+-- ---- The sheet ends with `end`, `max_reg_allocated`, `num_perm_vars`
+
+unfoldable pub lastAnswered : State → ℕ → Answered
+lastAnswered s room = if isValid s then answeredBy (ended (s .counters)) room else Refused 0 refusedSize
+
+unfoldable pub lastFilled : State → List ℕ → List ℕ
+lastFilled s out = filledBy (lastAnswered s (length out)) (ended (s .counters) .text) out

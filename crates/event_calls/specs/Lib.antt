@@ -1,0 +1,5 @@
+pub mod EventCalls
+pub mod CallLaws
+pub mod EventCallsLaws
+pub mod Fold
+pub mod FoldLaws

@@ -1,0 +1,126 @@
+// One line of an event sheet, given to a state by value.
+ghost use mathlib.Core.Path.{_≡_};
+ghost use lib.ListN.{length};
+ghost use Rattle.refusals.specs.Refusals.{refusedForm};
+ghost use Rattle.debray_allocator.specs.DebrayAllocator.{refusedWith};
+ghost use Rattle.event_sheets.specs.EventSheets.{lineAnswer};
+ghost use Rattle.event_calls.specs.EventCalls.{
+  bytesAnswer,
+  refusedCall,
+  called,
+  callFilled,
+  lastAnswered,
+  lastFilled,
+};
+use answered::Answered;
+use answers::LONGEST;
+use code_deque::CodeDeque;
+use debray_allocator::Answer;
+use debray_allocator::At;
+use debray_allocator::State;
+use event_lines::Entries;
+use event_lines::Line;
+use sizes::SHEET_BYTES;
+use split::LINE_FEED;
+
+// The state after a call, and what the call is answered with.
+pub struct Called {
+    pub state: State,
+    pub answered: Answered,
+}
+
+// A line that has no form changes nothing.
+fn malformed(state: State) -> Answer
+    ensures { λ r. ⌜ r ≡ refusedWith state refusedForm ⌝ }
+{
+    Answer {
+        state,
+        code: CodeDeque::Empty,
+        at: At::Nowhere,
+        refusal: refusals::FORM,
+    }
+}
+
+// Reads a line and carries it out.
+fn step_line(state: State, line: &[u8]) -> Answer
+    ensures { λ r. ⌜ r ≡ lineAnswer state (now (line .entry)) ⌝ }
+{
+    let mut list: Entries = [0; SHEET_BYTES];
+    let said = event_lines::read_line(line, &mut list);
+    match said {
+        Line::Malformed => malformed(state),
+        Line::Says(event, count) => debray_allocator::step(state, event, &list[0..count]),
+    }
+}
+
+// A line is bytes with one line feed, which stands behind all others.
+fn step_bytes(state: State, bytes: &[u8]) -> Answer
+    ensures { λ r. ⌜ r ≡ bytesAnswer state (now (bytes .entry)) ⌝ }
+{
+    let end = split::end_of(bytes, LINE_FEED);
+    if bytes.len() <= end {
+        return malformed(state);
+    }
+    if end + 1 < bytes.len() {
+        return malformed(state);
+    }
+    step_line(state, split::part_before(bytes, end))
+}
+
+// A refusal leaves the state as it was.
+fn refused(state: State, line: usize, refusal: u32) -> Called
+    ensures { λ r. ⌜ r ≡ refusedCall state line refusal ⌝ }
+{
+    Called {
+        state,
+        answered: Answered::Refused(line, refusal),
+    }
+}
+
+// The answer to one line: the state is tested first, then the line, and the room last. The text is made aside, so that a
+// refusal leaves the lent bytes as they were.
+pub fn call(state: State, line: &[u8], out: &mut [u8]) -> Called
+    ensures { λ r. ⌜ r ≡ called state (now (line .entry)) (length (now (out .entry))) ⌝ }
+    ensures { λ _. ⌜ now (out .exit) ≡ callFilled state (now (line .entry)) (now (out .entry)) ⌝ }
+{
+    if !valid_states::is_valid_state(state) {
+        return refused(state, 0, refusals::SIZE);
+    }
+    let answer = step_bytes(state, line);
+    if 0 < answer.refusal {
+        return refused(state, 1, answer.refusal);
+    }
+    let after = answer.state;
+    let code = answer.code;
+    let at = answer.at;
+    let mut text = [0; LONGEST];
+    let length = answers::put_answer(&mut text[..], 0, code, at);
+    if out.len() < length {
+        return refused(state, 0, refusals::ROOM);
+    }
+    printing::put_word(out, 0, split::part_before(&text[..], length));
+    Called {
+        state: after,
+        answered: Answered::Written(length),
+    }
+}
+
+// What a sheet ends with: the state is tested first, and the room last.
+pub fn put_last(state: State, out: &mut [u8]) -> Answered
+    ensures { λ r. ⌜ r ≡ lastAnswered state (length (now (out .entry))) ⌝ }
+    ensures { λ _. ⌜ now (out .exit) ≡ lastFilled state (now (out .entry)) ⌝ }
+{
+    if !valid_states::is_valid_state(state) {
+        return Answered::Refused(0, refusals::SIZE);
+    }
+    let counters = state.counters;
+    let registers = event_sheets::max_reg_allocated(counters);
+    let slots = event_sheets::num_perm_vars(counters);
+    let mut text = [0; LONGEST];
+    let count = answers::put_end(&mut text[..], 0, registers, slots);
+    if out.len() < count {
+        return Answered::Refused(0, refusals::ROOM);
+    }
+    printing::put_word(out, 0, split::part_before(&text[..], count));
+    Answered::Written(count)
+}
