@@ -4,6 +4,7 @@
 //! and the first goal are one chunk.
 
 use crate::random::Random;
+use crate::shuffle::shuffle;
 use crate::text::{Place, Step, call, deep, moving, register, shallow, slot, subterm};
 use std::collections::BTreeMap;
 
@@ -231,7 +232,7 @@ impl Compiler {
     fn write_goal(&mut self, arguments: &[Argument]) {
         let mut order: Vec<usize> = (0..arguments.len()).collect();
         if self.random.one_in(5) {
-            self.random.shuffle(&mut order);
+            shuffle(&mut self.random, &mut order);
         }
         for index in order {
             match &arguments[index] {

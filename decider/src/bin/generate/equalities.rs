@@ -1,6 +1,7 @@
 //! Sheets dense in equalities: many steps for few variables, compared in any order.
 
 use crate::random::Random;
+use crate::shuffle::shuffle;
 use crate::text::{Instruction, Place, Step, call, deep, moving, register, shallow, slot, subterm};
 
 /// Instructions of a step; one place is left for the step's own.
@@ -23,7 +24,7 @@ pub fn equalities(random: &mut Random, most_steps: usize) -> Vec<Step> {
     for _ in 0..slips {
         slip(random, &plan.holders, &mut comparisons);
     }
-    random.shuffle(&mut comparisons);
+    shuffle(random, &mut comparisons);
     place_comparisons(random, &mut plan.steps, comparisons);
     write_goal(random, &mut plan);
     plan.steps

@@ -5,7 +5,9 @@ mod damage;
 mod edits;
 mod equalities;
 mod limits;
+#[path = "../../../../oracle/src/bin/generate/random.rs"]
 mod random;
+mod shuffle;
 mod small;
 mod text;
 

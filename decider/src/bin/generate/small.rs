@@ -1,6 +1,7 @@
 //! Small sheets of any lines that are in order: few registers, slots, variables and steps.
 
 use crate::random::Random;
+use crate::shuffle::shuffle;
 use crate::text::{Instruction, Place, Step, call, deep, moving, register, shallow, slot, subterm};
 
 const HEAD_INSTRUCTIONS: [(usize, &str); 4] = [
@@ -51,7 +52,7 @@ fn head_step(random: &mut Random, measures: &Measures) -> Step {
 /// No two arguments of a goal have one k.
 fn write_goal(random: &mut Random, measures: &Measures, steps: &mut Vec<Step>) {
     let mut registers: Vec<usize> = (1..=measures.registers).collect();
-    random.shuffle(&mut registers);
+    shuffle(random, &mut registers);
     for k in registers.into_iter().take(random.below(3)) {
         let v = random.below(measures.variables);
         let step = match random.below(4) {
