@@ -1,4 +1,4 @@
--- Laws of the numbers: every answer to a sheet can be told as one.
+-- Laws of the numbers: every answer to a sheet or a call can be told as one.
 use Prim.Native.Nat.{ℕ, _≤_, _<_, _^_, _+_}
 use mathlib.Core.Path.{_≡_, refl, sym, subst}
 use mathlib.Core.List.{List}
@@ -6,6 +6,10 @@ use native.Mathlib.Omega.{arith}
 use Rattle.sizes.specs.Sizes.{sheetBytes}
 use Rattle.answered.specs.declared.Answered.{Answered}
 use Rattle.answered.specs.declared.Answered.the-variants.{Written, Refused}
+use Rattle.answered.specs.AnsweredLaws.{Within}
+use Rattle.debray_allocator.specs.declared.State.{State}
+use Rattle.event_calls.specs.EventCalls.{called, lastAnswered}
+use Rattle.event_calls.specs.EventCallsLaws.{call-within, last-within}
 use Rattle.event_sheets.specs.EventSheets.{answered as answeredEvents}
 use Rattle.event_sheets.specs.EventSheetsLaws.{written-within as events-written, line-within as events-line}
 use Rattle.check_sheets.specs.CheckSheets.{answered as answeredCheck}
@@ -35,3 +39,20 @@ module _ (sheet : List ℕ) (room : ℕ) (h : room < 2 ^ 63) {a : Answered} wher
       (within-fits room (answeredCheck sheet room) h
       (λ count w. check-written sheet room count w .0)
       (λ line refusal w. check-line sheet room line refusal w))
+
+-- the same of an answer to a call, which tells line 1 at most
+call-fits-within :
+    (room : ℕ) (text : List ℕ) (lines : ℕ) (a : Answered) → room < 2 ^ 63 → lines ≤ 1 → Within room text lines a → Fits a
+call-fits-within room text lines (Written count) h few w = omega (arith, w .0)
+call-fits-within room text lines (Refused line refusal) h few w = omega (arith, w)
+
+module _ (state : State) (room : ℕ) (h : room < 2 ^ 63) {a : Answered} where
+  pub call-fits : (bytes : List ℕ) → a ≡ called state bytes room .answered → Fits a
+  call-fits bytes e =
+      subst Fits (sym e)
+      (call-fits-within room _ 1 (called state bytes room .answered) h (omega arith) (call-within state bytes room))
+
+  pub last-fits : a ≡ lastAnswered state room → Fits a
+  last-fits e =
+      subst Fits (sym e)
+      (call-fits-within room _ 0 (lastAnswered state room) h (omega arith) (last-within state room))

@@ -1,15 +1,24 @@
-// What a C host calls: the answer to a sheet, as one number.
+// What a C host calls: the answer to a sheet, or to one line with a state that the host lends, as one number.
 ghost use Prim.Native.Nat.{_+_, _*_, _^_, _<_, _≤_};
 ghost use mathlib.Core.Path.{_≡_};
 ghost use lib.IntN.{pos, negℤ};
 ghost use lib.ListN.{length};
 ghost use Rattle.sizes.specs.Sizes.{sheetBytes};
 ghost use Rattle.answered.specs.Answered.{numberOf};
+ghost use Rattle.debray_allocator.specs.State.{freshState};
+ghost use Rattle.event_calls.specs.EventCalls.{called, callFilled, lastAnswered, lastFilled};
 ghost use Rattle.event_sheets.specs.EventSheets.{answered as answeredEvents, filled as filledEvents};
 ghost use Rattle.check_sheets.specs.CheckSheets.{answered as answeredCheck, filled as filledCheck};
 ghost use Rattle.check_sheets.specs.Judging.{JudgesRightly};
 ghost use Rattle.fenomirask.specs.Numbers.{Fits};
 use answered::Answered;
+use debray_allocator::State;
+
+// The state after a call, and what the host is told.
+pub struct Stepped {
+    pub state: State,
+    pub number: i64,
+}
 
 // A count as a signed number.
 fn signed(count: usize) -> i64
@@ -58,4 +67,59 @@ pub extern "C" fn fenomirask_check(sheet: &[u8], out: &mut [u8]) -> i64
 {
     let answered = check_sheets::answer(sheet, out);
     number_of(answered)
+}
+
+// The answer to one line of an event sheet, with the state by value.
+fn step(state: State, line: &[u8], out: &mut [u8]) -> Stepped
+    ensures { λ r. ⌜ (r .number ≡ numberOf (called state (now (line .entry)) (length (now (out .entry))) .answered))
+        × (r .state ≡ called state (now (line .entry)) (length (now (out .entry))) .state)
+        × (now (out .exit) ≡ callFilled state (now (line .entry)) (now (out .entry))) ⌝ }
+{
+    let called = event_calls::call(state, line, out);
+    let answered = called.answered;
+    let after = called.state;
+    let number = number_of(answered);
+    Stepped {
+        state: after,
+        number,
+    }
+}
+
+// The answer to one line of an event sheet, given to a state that the host lends.
+#[no_mangle]
+pub extern "C" fn fenomirask_event(state: &mut State, line: &[u8], out: &mut [u8]) -> i64
+    ensures { λ r. ⌜ (r ≡ numberOf (called (now (state .entry)) (now (line .entry)) (length (now (out .entry))) .answered))
+        × (now (state .exit) ≡ called (now (state .entry)) (now (line .entry)) (length (now (out .entry))) .state)
+        × (now (out .exit) ≡ callFilled (now (state .entry)) (now (line .entry)) (now (out .entry))) ⌝ }
+{
+    let stepped = step(*state, line, out);
+    *state = stepped.state;
+    stepped.number
+}
+
+// A fresh clause, over whatever the host's state was.
+#[no_mangle]
+pub extern "C" fn fenomirask_fresh(state: &mut State)
+    ensures { λ _. ⌜ now (state .exit) ≡ freshState ⌝ }
+{
+    let fresh = debray_allocator::fresh();
+    *state = fresh;
+}
+
+// What a sheet ends with, with the state by value.
+fn last(state: State, out: &mut [u8]) -> i64
+    ensures { λ r. ⌜ (r ≡ numberOf (lastAnswered state (length (now (out .entry)))))
+        × (now (out .exit) ≡ lastFilled state (now (out .entry))) ⌝ }
+{
+    let answered = event_calls::put_last(state, out);
+    number_of(answered)
+}
+
+// What a sheet ends with, of a state that the host lends and that stays as it was.
+#[no_mangle]
+pub extern "C" fn fenomirask_end(state: &State, out: &mut [u8]) -> i64
+    ensures { λ r. ⌜ (r ≡ numberOf (lastAnswered (now (state .entry)) (length (now (out .entry)))))
+        × (now (out .exit) ≡ lastFilled (now (state .entry)) (now (out .entry))) ⌝ }
+{
+    last(*state, out)
 }
