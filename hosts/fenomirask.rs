@@ -1,0 +1,287 @@
+//! A safe wrapper of the static library libfenomirask.a, x86-64.
+//!
+//! A slice is never null and a `&mut` slice overlaps nothing, so all that include/fenomirask.h asks of a host holds
+//! here by Rust's own rules. A call of `events` or of a method of `Clause` needs about 340 KB of stack, one of `check`
+//! about 70 KB.
+use std::fmt;
+use std::mem::{size_of, MaybeUninit};
+
+/// A sheet that is longer is refused, `Refusal::Full` on line 0.
+pub const SHEET_BYTES: usize = 65_536;
+
+/// No event prints more, nor does the end of a clause.
+pub const EVENT_ROOM: usize = 256;
+
+/// The refusal numbers, as document 01 gives them.
+#[derive(Clone, Copy, Debug, PartialEq, Eq)]
+pub enum Refusal {
+    UnknownForm = 1,
+    ForbiddenOrder = 2,
+    OutsideSize = 3,
+    RustStops = 4,
+    NoRegister = 5,
+    NoSlot = 6,
+    Full = 7,
+    UnreachableMark = 8,
+    NoRoom = 9,
+}
+
+impl Refusal {
+    pub const ALL: [Refusal; 9] = [
+        Refusal::UnknownForm,
+        Refusal::ForbiddenOrder,
+        Refusal::OutsideSize,
+        Refusal::RustStops,
+        Refusal::NoRegister,
+        Refusal::NoSlot,
+        Refusal::Full,
+        Refusal::UnreachableMark,
+        Refusal::NoRoom,
+    ];
+
+    /// The refusal of a number from 1 to 9.
+    pub fn of_number(number: usize) -> Option<Refusal> {
+        Refusal::ALL.get(number.checked_sub(1)?).copied()
+    }
+}
+
+impl fmt::Display for Refusal {
+    fn fmt(&self, f: &mut fmt::Formatter) -> fmt::Result {
+        f.write_str(match self {
+            Refusal::UnknownForm => {
+                "a word, field count or field form is unknown, or the LF is missing"
+            }
+            Refusal::ForbiddenOrder => "lines stand in a forbidden order",
+            Refusal::OutsideSize => "a number is outside its size or names no variable",
+            Refusal::RustStops => "the original would stop here",
+            Refusal::NoRegister => "no register up to 63 can be chosen",
+            Refusal::NoSlot => "no slot up to 63 is left",
+            Refusal::Full => "a table, list, queue, count or the sheet is full",
+            Refusal::UnreachableMark => "a mark came where the original holds that none can",
+            Refusal::NoRoom => "the output is longer than the room for it",
+        })
+    }
+}
+
+/// A refusal and its line, from 1, or 0 for the whole sheet.
+#[derive(Clone, Copy, Debug, PartialEq, Eq)]
+pub struct Refused {
+    pub line: usize,
+    pub refusal: Refusal,
+}
+
+impl fmt::Display for Refused {
+    fn fmt(&self, f: &mut fmt::Formatter) -> fmt::Result {
+        write!(f, "line {}: {}", self.line, self.refusal)
+    }
+}
+
+impl std::error::Error for Refused {}
+
+/// A safety, as `FenomiraskSafety` of include/fenomirask.h, which tells what the numbers mean here and below.
+#[derive(Clone, Copy, Debug, PartialEq, Eq)]
+#[repr(C)]
+pub struct Safety {
+    pub code: u32,
+    pub start: u32,
+    pub span: u32,
+}
+
+/// The record of a variable, as `FenomiraskRecord`.
+#[derive(Clone, Copy, Debug, PartialEq, Eq)]
+#[repr(C)]
+pub struct Record {
+    pub kind: u32,
+    pub context: u32,
+    pub chunk: u32,
+    pub place: u32,
+    pub pending: u32,
+    pub safety: Safety,
+    pub deep: Safety,
+    pub to_perm_var_num: u32,
+    pub num_occurrences: u32,
+    pub running_count: u32,
+    pub unused: [u32; 2],
+}
+
+/// A freed slot, as `FenomiraskFreedSlot`.
+#[derive(Clone, Copy, Debug, PartialEq, Eq)]
+#[repr(C)]
+pub struct FreedSlot {
+    pub chunk: u32,
+    pub variable: u32,
+}
+
+/// An open branch, its numbers, as `FenomiraskBranchRow`.
+#[derive(Clone, Copy, Debug, PartialEq, Eq)]
+#[repr(C)]
+pub struct BranchRow {
+    pub start: u32,
+    pub span: u32,
+    pub num_branches: u32,
+    pub current_branch_idx: u32,
+}
+
+/// An open branch, its sets, as `FenomiraskBranchSets`.
+#[derive(Clone, Copy, Debug, PartialEq, Eq)]
+#[repr(C)]
+pub struct BranchSets {
+    pub shallow_safety: u64,
+    pub deep_safety: u64,
+    pub subsumed_hits: u64,
+}
+
+/// The numbers that are no table, as `FenomiraskCounters`.
+#[derive(Clone, Copy, Debug, PartialEq, Eq)]
+#[repr(C)]
+pub struct Counters {
+    pub arg_c: u32,
+    pub temp_lb: u32,
+    pub perm_lb: u32,
+    pub arity: u32,
+    pub in_tail_position: u32,
+    pub records: u32,
+    pub events_seen: u32,
+    pub freed_registers: u32,
+    pub first_freed_slot: u32,
+    pub freed_slots: u32,
+    pub open_branches: u32,
+    pub in_use: u64,
+}
+
+/// The state of a clause, as `FenomiraskState`.
+#[derive(Clone, Debug, PartialEq, Eq)]
+#[repr(C)]
+pub struct State {
+    pub counters: Counters,
+    pub records: [Record; 64],
+    pub use_sets: [[u32; 16]; 64],
+    pub use_counts: [u32; 64],
+    pub no_use: [u64; 64],
+    pub conflict: [u64; 64],
+    pub mappings: [u32; 64],
+    pub freed_registers: [u32; 64],
+    pub freed_slots: [FreedSlot; 128],
+    pub branch_rows: [BranchRow; 16],
+    pub branch_sets: [BranchSets; 16],
+}
+
+const _: () = assert!(size_of::<State>() == 11_704);
+
+mod library {
+    use super::State;
+
+    #[link(name = "fenomirask", kind = "static")]
+    extern "C" {
+        pub fn fenomirask_events(
+            sheet: *const u8,
+            sheet_bytes: usize,
+            out: *mut u8,
+            out_bytes: usize,
+        ) -> i64;
+        pub fn fenomirask_check(
+            sheet: *const u8,
+            sheet_bytes: usize,
+            out: *mut u8,
+            out_bytes: usize,
+        ) -> i64;
+        pub fn fenomirask_event(
+            state: *mut State,
+            line: *const u8,
+            line_bytes: usize,
+            out: *mut u8,
+            out_bytes: usize,
+        ) -> i64;
+        pub fn fenomirask_fresh(state: *mut State);
+        pub fn fenomirask_end(state: *const State, out: *mut u8, out_bytes: usize) -> i64;
+    }
+}
+
+/// An answer of the library, a count of bytes or −(16·line + refusal).
+fn answered(answer: i64) -> Result<usize, Refused> {
+    match usize::try_from(answer) {
+        Ok(written) => Ok(written),
+        Err(_) => {
+            let told = answer.unsigned_abs() as usize;
+            let refusal =
+                Refusal::of_number(told % 16).expect("a refusal has a number from 1 to 9");
+            Err(Refused {
+                line: told / 16,
+                refusal,
+            })
+        }
+    }
+}
+
+/// The answer to an event sheet stands at the start of `out`, so many bytes; those past it, and all on a refusal, are
+/// as they were.
+pub fn events(sheet: &[u8], out: &mut [u8]) -> Result<usize, Refused> {
+    // SAFETY: both parts are valid for their lengths, not null, and do not overlap.
+    answered(unsafe {
+        library::fenomirask_events(sheet.as_ptr(), sheet.len(), out.as_mut_ptr(), out.len())
+    })
+}
+
+/// The answer to a check sheet, `accepted` or `rejected` and an LF, stands at the start of `out`, as with `events`.
+pub fn check(sheet: &[u8], out: &mut [u8]) -> Result<usize, Refused> {
+    // SAFETY: as in `events`.
+    answered(unsafe {
+        library::fenomirask_check(sheet.as_ptr(), sheet.len(), out.as_mut_ptr(), out.len())
+    })
+}
+
+/// A clause that is given line by line.
+#[derive(Clone, Debug, PartialEq, Eq)]
+pub struct Clause {
+    state: State,
+}
+
+impl Clause {
+    /// A fresh clause.
+    pub fn new() -> Clause {
+        let mut state = MaybeUninit::uninit();
+        // SAFETY: the part is valid for a state; its bytes are not looked at, and all its numbers are written.
+        let state = unsafe {
+            library::fenomirask_fresh(state.as_mut_ptr());
+            state.assume_init()
+        };
+        Clause { state }
+    }
+
+    /// A clause in a state that was kept. A state that is not valid is refused by each call, `Refusal::OutsideSize` on
+    /// line 0.
+    pub fn with_state(state: State) -> Clause {
+        Clause { state }
+    }
+
+    pub fn state(&self) -> &State {
+        &self.state
+    }
+
+    /// What the event of one line, its LF included, prints stands at the start of `out`, as with `events`. The line's
+    /// own refusals are on line 1, that for the room on line 0; the clause is as it was then.
+    pub fn event(&mut self, line: &[u8], out: &mut [u8]) -> Result<usize, Refused> {
+        // SAFETY: the three parts are valid for their lengths, not null, and do not overlap.
+        answered(unsafe {
+            library::fenomirask_event(
+                &mut self.state,
+                line.as_ptr(),
+                line.len(),
+                out.as_mut_ptr(),
+                out.len(),
+            )
+        })
+    }
+
+    /// The `end` line of the clause as it is stands at the start of `out`, as with `events`.
+    pub fn end(&self, out: &mut [u8]) -> Result<usize, Refused> {
+        // SAFETY: as in `event`.
+        answered(unsafe { library::fenomirask_end(&self.state, out.as_mut_ptr(), out.len()) })
+    }
+}
+
+impl Default for Clause {
+    fn default() -> Clause {
+        Clause::new()
+    }
+}

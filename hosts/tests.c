@@ -1,0 +1,1032 @@
+/* The library as a C host sees it.
+ *
+ *     tests STREAM...
+ *
+ * A stream holds sheets with their answers, each led by a line: the kind, `events` or `check`, the bytes of the sheet
+ * and those of the answer. Each call is made three times: the lent parts stand at the start of memory that may be
+ * touched, at its end, and between guard bytes. Afterwards the sheet and every byte that the answer does not name must
+ * be as they were. Each event sheet is also given line by line, its lines at these places in turn, and has to come to
+ * the same. Prints what fails, and last how many calls passed and failed; exit 1 if any failed or a stream is
+ * malformed.
+ */
+#define _DEFAULT_SOURCE
+#include <pthread.h>
+#include <stdio.h>
+#include <stdlib.h>
+#include <string.h>
+#include <sys/mman.h>
+#include <unistd.h>
+
+#include "fenomirask.h"
+
+enum {
+    GUARD = 64,
+    ROOM = 65536,         /* the room for which a stream's answers hold */
+    LARGE_ROOM = 1 << 20, /* room for every answer */
+    SHOWN = 20,
+    SPOILT_EACH = 8, /* numbers that are spoilt in the state of each sheet of a stream */
+    THREADS = 4      /* for each function */
+};
+
+typedef int64_t sheet_function(const uint8_t *sheet, size_t sheet_bytes, uint8_t *out, size_t out_bytes);
+
+/* The exported functions that answer whole sheets, and the stack each needs. */
+static const struct function {
+    const char *word;
+    sheet_function *answer;
+    size_t stack;
+} functions[] = {
+    {"events", fenomirask_events, FENOMIRASK_EVENTS_STACK},
+    {"check", fenomirask_check, FENOMIRASK_CHECK_STACK},
+};
+enum { FUNCTIONS = sizeof functions / sizeof functions[0] };
+
+static size_t passed, failed;
+
+static void count(int good, const char *what, const char *word, size_t room, int64_t got, int64_t wanted)
+{
+    if (good) {
+        passed++;
+        return;
+    }
+    failed++;
+    if (failed <= SHOWN)
+        printf("failed: %s, %s, room %zu: got %lld, wanted %lld%s\n", what, word, room, (long long)got,
+               (long long)wanted, got == wanted ? ", but other bytes" : "");
+}
+
+/* ---- Memory to lend */
+
+/* Bytes between two pages that may not be touched. */
+struct area {
+    uint8_t *start;
+    size_t bytes;
+};
+
+static struct area sheets, rooms, states;
+
+static struct area new_area(size_t least)
+{
+    size_t page = (size_t)sysconf(_SC_PAGESIZE);
+    struct area area;
+    uint8_t *all;
+    area.bytes = (least + 2 * GUARD + page - 1) / page * page;
+    all = mmap(NULL, area.bytes + 2 * page, PROT_NONE, MAP_PRIVATE | MAP_ANONYMOUS, -1, 0);
+    if (all == MAP_FAILED || mprotect(all + page, area.bytes, PROT_READ | PROT_WRITE) != 0) {
+        perror("tests");
+        exit(2);
+    }
+    area.start = all + page;
+    return area;
+}
+
+enum placement { AT_START, AT_END, BETWEEN, PLACEMENTS };
+
+static const uint8_t fills[PLACEMENTS] = {0xA5, 0x5A, 0xFF};
+
+static size_t offset_of(struct area area, size_t bytes, enum placement placement)
+{
+    return placement == AT_START ? 0 : placement == AT_END ? area.bytes - bytes : GUARD;
+}
+
+/* A part of so many bytes, with the guard bytes that have place beside it: from `*first`, `*all` bytes. */
+static uint8_t *lend(struct area area, size_t bytes, enum placement placement, uint8_t **first, size_t *all)
+{
+    size_t offset = offset_of(area, bytes, placement);
+    size_t from = offset < GUARD ? 0 : offset - GUARD;
+    size_t to = area.bytes - offset - bytes < GUARD ? area.bytes : offset + bytes + GUARD;
+    *first = area.start + from;
+    *all = to - from;
+    memset(*first, fills[placement], *all);
+    return area.start + offset;
+}
+
+/* Whether a lent part starts with the text, and every other byte of it and of its guards is still the fill. */
+static int is_left(const uint8_t *first, size_t all, const uint8_t *part, const uint8_t *text, size_t bytes,
+                   uint8_t fill)
+{
+    size_t before = (size_t)(part - first), i;
+    for (i = 0; i < before; i++)
+        if (first[i] != fill)
+            return 0;
+    for (i = before + bytes; i < all; i++)
+        if (first[i] != fill)
+            return 0;
+    return bytes == 0 || memcmp(part, text, bytes) == 0;
+}
+
+/* ---- Calls */
+
+/* The answer must be `wanted`; if it is a count, `text` must be written. */
+static void expect(const char *what, const struct function *f, const void *sheet, size_t sheet_bytes, size_t room,
+                   int64_t wanted, const void *text)
+{
+    int placement;
+    for (placement = 0; placement < PLACEMENTS; placement++) {
+        uint8_t *first_in, *first_out;
+        size_t all_in, all_out;
+        uint8_t *in = lend(sheets, sheet_bytes, (enum placement)placement, &first_in, &all_in);
+        uint8_t *out = lend(rooms, room, (enum placement)placement, &first_out, &all_out);
+        uint8_t fill = fills[placement];
+        int64_t got;
+        if (sheet_bytes != 0)
+            memcpy(in, sheet, sheet_bytes);
+        got = f->answer(in, sheet_bytes, out, room);
+        count(got == wanted && is_left(first_in, all_in, in, sheet, sheet_bytes, fill)
+                  && is_left(first_out, all_out, out, text, wanted < 0 ? 0 : (size_t)wanted, fill),
+              what, f->word, room, got, wanted);
+    }
+}
+
+/* A sheet that is answered with the text: with large room, with exact room, with one byte less and with none. */
+static void expect_text(const char *what, const struct function *f, const void *sheet, size_t sheet_bytes, size_t room,
+                        const void *text, size_t bytes)
+{
+    expect(what, f, sheet, sheet_bytes, room, (int64_t)bytes, text);
+    expect(what, f, sheet, sheet_bytes, bytes, (int64_t)bytes, text);
+    expect(what, f, sheet, sheet_bytes, bytes - 1, -FENOMIRASK_NO_ROOM, "");
+    expect(what, f, sheet, sheet_bytes, 0, -FENOMIRASK_NO_ROOM, "");
+}
+
+/* A sheet that is refused whatever the room. */
+static void expect_refusal(const char *what, const struct function *f, const void *sheet, size_t sheet_bytes,
+                           size_t line, int refusal)
+{
+    int64_t wanted = -(int64_t)(16 * line + (size_t)refusal);
+    expect(what, f, sheet, sheet_bytes, ROOM, wanted, "");
+    expect(what, f, sheet, sheet_bytes, 1, wanted, "");
+    expect(what, f, sheet, sheet_bytes, 0, wanted, "");
+    count(FENOMIRASK_REFUSED(wanted) && FENOMIRASK_LINE(wanted) == line && FENOMIRASK_REFUSAL(wanted) == refusal,
+          "the header's macros", f->word, 0, wanted, wanted);
+}
+
+/* A sheet whose answer is longer than ROOM: what is written with exact room is what is written with more. */
+static void expect_longer(const char *what, const struct function *f, const uint8_t *sheet, size_t sheet_bytes)
+{
+    static uint8_t text[LARGE_ROOM];
+    int64_t got = f->answer(sheet, sheet_bytes, text, sizeof text);
+    count(got > ROOM, what, f->word, sizeof text, got, ROOM + 1);
+    if (got > ROOM)
+        expect_text(what, f, sheet, sheet_bytes, LARGE_ROOM, text, (size_t)got);
+}
+
+/* ---- Sheets of the tests' own */
+
+/* A line so many times over; the bytes of them all. */
+static size_t repeat(uint8_t *at, const char *line, size_t times)
+{
+    size_t bytes = strlen(line), i;
+    for (i = 0; i < times; i++)
+        memcpy(at + i * bytes, line, bytes);
+    return times * bytes;
+}
+
+static void whole_sheets(void)
+{
+    static const char *const empty[FUNCTIONS] = {"end\t1\t0\n", "accepted\n"};
+    static const char first[] = "temp\tl1\t1\tl1:2\nperm\t1\nhead\t0\t1\nvar\tf\ts\th\t0\nvar\tf\ts\th\t1\n";
+    static const char first_ends[] = "at\tx1\nget_variable\ty1\t2\nat\ty1\nend\t3\t1\n";
+    static const char tenth[] = "h\t1\t0\nh\t2\t0\nget_value\tx1\t2\n";
+    static const char uncalled[] = "g\t1\t0\nput_variable\tx5\t1\n";
+    static uint8_t sheet[2 * FENOMIRASK_SHEET_BYTES];
+    const struct function *events = &functions[0], *check = &functions[1];
+    size_t bytes;
+    int i;
+
+    for (i = 0; i < FUNCTIONS; i++) {
+        const struct function *f = &functions[i];
+        expect_text("an empty sheet", f, "", 0, ROOM, empty[i], strlen(empty[i]));
+        memset(sheet, '\n', sizeof sheet);
+        expect_refusal("one LF", f, sheet, 1, 1, FENOMIRASK_UNKNOWN_FORM);
+        expect_refusal("65,536 LFs", f, sheet, 65536, 1, FENOMIRASK_UNKNOWN_FORM);
+        expect_refusal("65,537 LFs", f, sheet, 65537, 0, FENOMIRASK_FULL);
+        expect_refusal("131,072 LFs", f, sheet, 131072, 0, FENOMIRASK_FULL);
+        memset(sheet, 0xFF, sizeof sheet);
+        expect_refusal("65,536 bytes and no LF", f, sheet, 65536, 1, FENOMIRASK_UNKNOWN_FORM);
+        expect_refusal("65,537 bytes and no LF", f, sheet, 65537, 0, FENOMIRASK_FULL);
+    }
+
+    expect_text("sheet 1", events, first, strlen(first), ROOM, first_ends, strlen(first_ends));
+    expect_refusal("sheet 1 without its last LF", events, first, strlen(first) - 1, 5, FENOMIRASK_UNKNOWN_FORM);
+    bytes = repeat(sheet, "tail\t0\n", 4);
+    bytes += repeat(sheet + bytes, "reset\n", 10918);
+    count(bytes == 65536, "a sheet's length", "events", 0, (int64_t)bytes, 65536);
+    expect_text("65,536 bytes of good lines", events, sheet, bytes, ROOM, empty[0], strlen(empty[0]));
+    expect_refusal("65,535 bytes, the last LF missing", events, sheet, bytes - 1, 10922, FENOMIRASK_UNKNOWN_FORM);
+    bytes = repeat(sheet, "tail\t0\n", 5);
+    bytes += repeat(sheet + bytes, "reset\n", 10917);
+    count(bytes == 65537, "a sheet's length", "events", 0, (int64_t)bytes, 65537);
+    expect_refusal("65,537 bytes of good lines", events, sheet, bytes, 0, FENOMIRASK_FULL);
+
+    expect_text("sheet 10", check, tenth, strlen(tenth), ROOM, "accepted\n", FENOMIRASK_CHECK_ROOM);
+    expect_text("sheet 10, nothing", check, tenth, 12, ROOM, "rejected\n", FENOMIRASK_CHECK_ROOM);
+    expect_refusal("sheet 10 without its last LF", check, tenth, strlen(tenth) - 1, 3, FENOMIRASK_UNKNOWN_FORM);
+    expect_refusal("a goal step with no call", check, uncalled, strlen(uncalled), 2, FENOMIRASK_FORBIDDEN_ORDER);
+    bytes = repeat(sheet, "call\n", 256);
+    expect_text("256 steps", check, sheet, bytes, ROOM, "accepted\n", FENOMIRASK_CHECK_ROOM);
+    bytes = repeat(sheet, "call\n", 13107);
+    expect_refusal("65,536 bytes, too many steps", check, sheet, bytes + 1, 257, FENOMIRASK_FULL);
+    expect_refusal("65,537 bytes, too many steps", check, sheet, bytes + 2, 0, FENOMIRASK_FULL);
+}
+
+/* ---- One line at a time */
+
+/* Whether two states have the same numbers. The bytes between the counters' last two are no part of a state. */
+static int same_state(const FenomiraskState *a, const FenomiraskState *b)
+{
+    size_t gap = offsetof(FenomiraskCounters, open_branches) + sizeof a->counters.open_branches;
+    size_t behind = offsetof(FenomiraskCounters, in_use);
+    return memcmp(a, b, gap) == 0
+           && memcmp((const uint8_t *)a + behind, (const uint8_t *)b + behind, sizeof *a - behind) == 0;
+}
+
+/* One call with lent parts, fenomirask_event or, where `line` is NULL, fenomirask_end. Afterwards `state` is the state
+ * and `text` what was written. `*kept` tells whether all that may not change is as it was. */
+static int64_t call(FenomiraskState *state, const void *line, size_t line_bytes, size_t room, enum placement placement,
+                    uint8_t *text, int *kept)
+{
+    uint8_t *first_state, *first_line, *first_out;
+    size_t all_state, all_line, all_out;
+    uint8_t fill = fills[placement];
+    uint8_t *lent_state = lend(states, sizeof *state, placement, &first_state, &all_state);
+    uint8_t *lent_line = lend(sheets, line_bytes, placement, &first_line, &all_line);
+    uint8_t *out = lend(rooms, room, placement, &first_out, &all_out);
+    FenomiraskState *lent = (FenomiraskState *)(void *)lent_state;
+    int64_t got;
+    memcpy(lent, state, sizeof *state);
+    if (line != NULL && line_bytes != 0)
+        memcpy(lent_line, line, line_bytes);
+    got = line == NULL ? fenomirask_end(lent, out, room) : fenomirask_event(lent, lent_line, line_bytes, out, room);
+    *kept = got <= (int64_t)room && is_left(first_line, all_line, lent_line, line, line_bytes, fill)
+            && is_left(first_out, all_out, out, out, got < 0 ? 0 : (size_t)got, fill)
+            && is_left(first_state, all_state, lent_state, lent_state, sizeof *state, fill)
+            && ((line != NULL && got >= 0) || same_state(lent, state));
+    if (got > 0 && got <= (int64_t)room && got <= FENOMIRASK_EVENT_ROOM)
+        memcpy(text, out, (size_t)got);
+    memcpy(state, lent, sizeof *state);
+    return got;
+}
+
+/* The call must be answered with `wanted`, and `text` written if that is a count; at each placement, and with the same
+ * state afterwards, which `state` is then. */
+static void expect_call(const char *what, FenomiraskState *state, const void *line, size_t line_bytes, size_t room,
+                        int64_t wanted, const void *text)
+{
+    FenomiraskState before = *state, after = *state;
+    int placement;
+    for (placement = 0; placement < PLACEMENTS; placement++) {
+        uint8_t got_text[FENOMIRASK_EVENT_ROOM];
+        int kept;
+        int64_t got;
+        *state = before;
+        got = call(state, line, line_bytes, room, (enum placement)placement, got_text, &kept);
+        if (placement == 0)
+            after = *state;
+        count(kept && got == wanted && same_state(state, &after)
+                  && (wanted <= 0 || memcmp(got_text, text, (size_t)wanted) == 0),
+              what, line == NULL ? "end" : "event", room, got, wanted);
+    }
+}
+
+/* A line, or with NULL the end, that is answered with the text: with no room, one byte less than it needs, and as much;
+ * the last with the state that it had before. */
+static void expect_line(FenomiraskState *state, const char *line, const char *text)
+{
+    char what[64];
+    size_t line_bytes = line == NULL ? 0 : strlen(line), bytes = strlen(text);
+    FenomiraskState large = *state;
+    snprintf(what, sizeof what, "%.*s", line == NULL ? 3 : (int)line_bytes - 1, line == NULL ? "end" : line);
+    expect_call(what, &large, line, line_bytes, FENOMIRASK_EVENT_ROOM, (int64_t)bytes, text);
+    if (bytes != 0) {
+        expect_call(what, state, line, line_bytes, 0, -FENOMIRASK_NO_ROOM, "");
+        expect_call(what, state, line, line_bytes, bytes - 1, -FENOMIRASK_NO_ROOM, "");
+    }
+    expect_call(what, state, line, line_bytes, bytes, (int64_t)bytes, text);
+    count(same_state(state, &large), what, "the state with more room", bytes, 0, 0);
+}
+
+/* A line that is refused whatever the room, on line 1. */
+static void expect_line_refusal(const char *what, FenomiraskState *state, const void *line, size_t line_bytes,
+                                int refusal)
+{
+    static const size_t some[] = {FENOMIRASK_EVENT_ROOM, 1, 0};
+    size_t i;
+    for (i = 0; i < sizeof some / sizeof some[0]; i++)
+        expect_call(what, state, line, line_bytes, some[i], -(16 + refusal), "");
+}
+
+static void expect_number(const char *what, uint64_t got, uint64_t wanted)
+{
+    count(got == wanted, what, "a number of the state", 0, (int64_t)got, (int64_t)wanted);
+}
+#define EXPECT(field, wanted) expect_number(#field, s.field, wanted)
+
+/* A fresh clause over any bytes: all numbers are as the header tells. */
+static void fresh_states(void)
+{
+    static const uint8_t over[] = {0x00, 0xAA, 0xFF};
+    FenomiraskState wanted;
+    size_t i;
+    int placement;
+    memset(&wanted, 0, sizeof wanted);
+    wanted.counters.arg_c = wanted.counters.temp_lb = wanted.counters.perm_lb = 1;
+    for (i = 0; i < FENOMIRASK_REGISTERS; i++)
+        wanted.mappings[i] = FENOMIRASK_NO_VARIABLE;
+    for (i = 0; i < sizeof over; i++)
+        for (placement = 0; placement < PLACEMENTS; placement++) {
+            uint8_t *first;
+            size_t all;
+            uint8_t *lent = lend(states, sizeof wanted, (enum placement)placement, &first, &all);
+            memset(lent, over[i], sizeof wanted);
+            fenomirask_fresh((FenomiraskState *)(void *)lent);
+            count(is_left(first, all, lent, lent, sizeof wanted, fills[placement])
+                      && same_state((FenomiraskState *)(void *)lent, &wanted),
+                  "a fresh clause", "fresh", over[i], 0, 0);
+        }
+}
+
+/* States that sheets reach, in each of which many tables count. */
+static const char *const reached[] = {
+    "",
+    "perm\t3\nperm\t4\ntemp\tm7\t2\tl1:2,m3:4,h:5\ntemp\tm7\t9\tm7:6\ntemp\tl9\t9\t-\ntemp\th\t1\th:63\nsets\nargs\t4\n"
+    "tail\t1\ngive\t9\ngive\t10\nopen\t11\t12\t3\ntake\nvar\tf\ts\tm7\t0\nvar\tq\td\tm7\t2\narm\t13\t14\nsafe\t0\n"
+    "var\tf\ts\tm7\t1\nincr\t1\n",
+    "perm\t3\nperm\t4\nperm\t5\ntemp\tl1\t2\tl1:2\ntemp\tl1\t9\tl1:6\nsets\nhead\t0\t1\t-\nvar\tf\ts\th\t0\n"
+    "var\tf\ts\th\t1\nfree\t8\t1\nfree\t9\t0\nvar\tf\ts\tm10\t2\nfree\t9\t2\nopen\t1\t2\t3\nopen\t4\t5\t6\n",
+};
+enum { REACHED = sizeof reached / sizeof reached[0] };
+
+static FenomiraskState reach(const char *sheet)
+{
+    FenomiraskState state;
+    uint8_t out[FENOMIRASK_EVENT_ROOM];
+    fenomirask_fresh(&state);
+    while (*sheet != 0) {
+        size_t bytes = (size_t)(strchr(sheet, '\n') - sheet) + 1;
+        int64_t got = fenomirask_event(&state, (const uint8_t *)sheet, bytes, out, sizeof out);
+        count(got >= 0, "a line of a state that is reached", "event", sizeof out, got, 0);
+        sheet += bytes;
+    }
+    return state;
+}
+
+/* What events write is found where the header says. Each number that is not 0 differs from its neighbours. */
+static void fields(void)
+{
+    FenomiraskState s;
+    fenomirask_fresh(&s);
+    expect_line(&s, "perm\t3\n", "");
+    EXPECT(counters.records, 1);
+    EXPECT(counters.events_seen, 0);
+    EXPECT(records[0].kind, 1);
+    EXPECT(records[0].place, 0);
+    EXPECT(records[0].pending, 1);
+    EXPECT(records[0].to_perm_var_num, FENOMIRASK_NO_VARIABLE);
+    EXPECT(records[0].num_occurrences, 3);
+    EXPECT(records[0].running_count, 0);
+    expect_line(&s, "perm\t4\n", "");
+    expect_line(&s, "temp\tm7\t2\tl1:2,m3:4,h:5\n", "");
+    EXPECT(counters.records, 3);
+    EXPECT(records[2].kind, 0);
+    EXPECT(records[2].context, 1);
+    EXPECT(records[2].chunk, 7);
+    EXPECT(records[2].to_perm_var_num, FENOMIRASK_NO_VARIABLE);
+    EXPECT(records[2].num_occurrences, 2);
+    EXPECT(use_counts[2], 3);
+    EXPECT(use_sets[2][0], 256 * (512 + 1) + 2);
+    EXPECT(use_sets[2][1], 256 * (256 + 3) + 4);
+    EXPECT(use_sets[2][2], 5);
+    expect_line(&s, "temp\tl9\t9\t-\n", "");
+    EXPECT(records[3].context, 2);
+    EXPECT(records[3].chunk, 9);
+    EXPECT(use_counts[3], 0);
+    expect_line(&s, "sets\n", "");
+    EXPECT(counters.events_seen, 1);
+    EXPECT(conflict[2], 1 << 1);
+    expect_line(&s, "args\t4\n", "");
+    EXPECT(counters.arg_c, 1);
+    EXPECT(counters.temp_lb, 5);
+    expect_line(&s, "tail\t1\n", "");
+    EXPECT(counters.in_tail_position, 1);
+    expect_line(&s, "give\t9\n", "");
+    expect_line(&s, "give\t10\n", "");
+    EXPECT(counters.freed_registers, 2);
+    EXPECT(freed_registers[0], 9);
+    EXPECT(freed_registers[1], 10);
+    expect_line(&s, "open\t11\t12\t3\n", "");
+    EXPECT(counters.open_branches, 1);
+    EXPECT(branch_rows[0].start, 11);
+    EXPECT(branch_rows[0].span, 12);
+    EXPECT(branch_rows[0].num_branches, 3);
+    EXPECT(branch_rows[0].current_branch_idx, 0);
+    expect_line(&s, "var\tf\ts\tm7\t0\n", "get_variable\ty1\t1\nat\ty1\n");
+    EXPECT(counters.arg_c, 2);
+    EXPECT(counters.perm_lb, 2);
+    EXPECT(counters.in_use, 1 << 1);
+    EXPECT(records[0].place, 1);
+    EXPECT(records[0].pending, 0);
+    EXPECT(records[0].running_count, 1);
+    EXPECT(branch_sets[0].subsumed_hits, 1 << 0);
+    expect_line(&s, "var\tq\td\tm7\t2\n", "set_variable\tx2\nat\tx2\n");
+    EXPECT(counters.in_use, 1 << 1 | 1 << 2);
+    EXPECT(records[2].place, 2);
+    EXPECT(records[2].safety.code, 2);
+    EXPECT(mappings[2], 2);
+    expect_line(&s, "arm\t13\t14\n", "");
+    EXPECT(branch_rows[0].start, 13);
+    EXPECT(branch_rows[0].span, 14);
+    EXPECT(branch_rows[0].current_branch_idx, 1);
+    expect_line(&s, "safe\t0\n", "");
+    EXPECT(records[0].safety.code, 1);
+    EXPECT(records[0].safety.start, 13);
+    EXPECT(records[0].safety.span, 14);
+    EXPECT(records[0].deep.code, 1);
+    EXPECT(records[0].deep.start, 13);
+    EXPECT(records[0].deep.span, 14);
+    expect_line(&s, "var\tf\ts\tm7\t1\n", "get_variable\tx4\t2\nget_variable\ty2\t2\nat\ty2\n");
+    EXPECT(mappings[2], FENOMIRASK_NO_VARIABLE);
+    EXPECT(mappings[4], 2);
+    EXPECT(records[2].place, 4);
+    EXPECT(records[1].place, 2);
+    EXPECT(branch_sets[0].subsumed_hits, 1 << 0 | 1 << 1);
+    expect_line(&s, "incr\t1\n", "");
+    EXPECT(records[1].running_count, 2);
+    expect_line(&s, "take\n", "");
+    EXPECT(branch_sets[0].shallow_safety, 1 << 1);
+    EXPECT(branch_sets[0].deep_safety, 1 << 1);
+    EXPECT(branch_sets[0].subsumed_hits, 0);
+    expect_line(&s, "free\t8\t1\n", "");
+    expect_line(&s, "free\t9\t0\n", "");
+    EXPECT(counters.first_freed_slot, 0);
+    EXPECT(counters.freed_slots, 2);
+    EXPECT(freed_slots[0].chunk, 8);
+    EXPECT(freed_slots[0].variable, 1);
+    EXPECT(freed_slots[1].chunk, 9);
+    EXPECT(freed_slots[1].variable, 0);
+    expect_line(&s, "next\n", "");
+    expect_line(&s, "open\t21\t22\t23\n", "");
+    EXPECT(counters.open_branches, 2);
+    EXPECT(branch_rows[1].start, 21);
+    EXPECT(branch_rows[1].span, 22);
+    EXPECT(branch_rows[1].num_branches, 23);
+    expect_line(&s, NULL, "end\t5\t2\n");
+
+    s = reach(reached[2]);
+    EXPECT(counters.arity, 3);
+    EXPECT(counters.first_freed_slot, 1);
+    EXPECT(counters.freed_slots, 2);
+    EXPECT(no_use[3], 1 << 6);
+    EXPECT(no_use[4], 1 << 2);
+}
+
+/* Lines that are refused, each with the state as it was; the same state takes a good line then. */
+static void single_lines(void)
+{
+    static uint8_t long_line[2 * FENOMIRASK_SHEET_BYTES];
+    FenomiraskState s, bad;
+    size_t bytes;
+    fenomirask_fresh(&s);
+    expect_line_refusal("no byte", &s, "", 0, FENOMIRASK_UNKNOWN_FORM);
+    expect_line_refusal("an LF", &s, "\n", 1, FENOMIRASK_UNKNOWN_FORM);
+    expect_line_refusal("no LF", &s, "perm\t1", 6, FENOMIRASK_UNKNOWN_FORM);
+    expect_line_refusal("two LFs", &s, "perm\t1\n\n", 8, FENOMIRASK_UNKNOWN_FORM);
+    expect_line_refusal("two lines", &s, "perm\t1\nperm\t2\n", 14, FENOMIRASK_UNKNOWN_FORM);
+    expect_line_refusal("a byte behind the LF", &s, "perm\t1\np", 8, FENOMIRASK_UNKNOWN_FORM);
+    expect_line_refusal("a zero behind the LF", &s, "perm\t1\n", 8, FENOMIRASK_UNKNOWN_FORM);
+    expect_line_refusal("no variable", &s, "safe\t0\n", 7, FENOMIRASK_OUTSIDE_SIZE);
+    expect_line_refusal("no open branch", &s, "take\n", 5, FENOMIRASK_RUST_STOPS);
+    expect_line(&s, NULL, "end\t1\t0\n");
+    memset(long_line, '\n', sizeof long_line);
+    expect_line_refusal("131,072 LFs", &s, long_line, sizeof long_line, FENOMIRASK_UNKNOWN_FORM);
+    memset(long_line, 'a', sizeof long_line);
+    expect_line_refusal("131,072 bytes", &s, long_line, sizeof long_line, FENOMIRASK_UNKNOWN_FORM);
+    memcpy(long_line, "head", 4);
+    for (bytes = 4; bytes + 2 < FENOMIRASK_SHEET_BYTES; bytes += 2)
+        memcpy(long_line + bytes, "\t-", 2);
+    memcpy(long_line + bytes, "\n", 1);
+    expect_line_refusal("a line of 65,535 bytes", &s, long_line, bytes + 1, FENOMIRASK_FULL);
+    expect_line(&s, "perm\t1\n", "");
+    expect_line(&s, "reset\n", "");
+    expect_line_refusal("a record after an event", &s, "perm\t1\n", 7, FENOMIRASK_FORBIDDEN_ORDER);
+    expect_line_refusal("a record after an event", &s, "temp\th\t1\t-\n", 11, FENOMIRASK_FORBIDDEN_ORDER);
+    expect_line(&s, "args\t63\n", "");
+    expect_line(&s, "var\tf\ts\th\t0\n", "get_variable\ty1\t1\nat\ty1\n");
+    expect_line(&s, NULL, "end\t64\t1\n");
+    memset(&bad, 0xAA, sizeof bad);
+    expect_call("no state, no line, no room", &bad, "", 0, 0, -FENOMIRASK_OUTSIDE_SIZE, "");
+    expect_call("no state", &bad, "reset\n", 6, FENOMIRASK_EVENT_ROOM, -FENOMIRASK_OUTSIDE_SIZE, "");
+    expect_call("no state", &bad, NULL, 0, FENOMIRASK_EVENT_ROOM, -FENOMIRASK_OUTSIDE_SIZE, "");
+    expect_call("no state, no room", &bad, NULL, 0, 0, -FENOMIRASK_OUTSIDE_SIZE, "");
+    fenomirask_fresh(&bad);
+    expect_line(&bad, NULL, "end\t1\t0\n");
+}
+
+/* ---- States that are none */
+
+static int is_within(uint32_t n, uint32_t least, uint32_t most)
+{
+    return least <= n && n <= most;
+}
+
+static int has(uint64_t set, unsigned n)
+{
+    return (set >> n & 1) != 0;
+}
+
+static int is_use(uint32_t use)
+{
+    uint32_t context = use / 256;
+    return is_within(use % 256, 1, 63) && (context == 0 || is_within(context, 256, 512 + 255));
+}
+
+/* Whether the members of a set are variables, and if wanted permanent ones. */
+static int are_variables(const FenomiraskState *s, uint64_t set, int permanent)
+{
+    unsigned v;
+    for (v = 0; v < FENOMIRASK_VARIABLES; v++)
+        if (has(set, v) && (v >= s->counters.records || (permanent && s->records[v].kind == 0)))
+            return 0;
+    return 1;
+}
+
+/* Whether the header calls a state valid. */
+static int is_valid(const FenomiraskState *s)
+{
+    const FenomiraskCounters *c = &s->counters;
+    unsigned i, j;
+    if (!is_within(c->arg_c, 1, 64) || !is_within(c->temp_lb, 1, 64) || !is_within(c->perm_lb, 1, 64) || c->arity > 63
+        || c->in_tail_position > 1 || c->records > 64 || c->events_seen > 1 || c->freed_registers > 64
+        || c->first_freed_slot > 127 || c->freed_slots > 128 || c->open_branches > 16 || has(c->in_use, 0))
+        return 0;
+    for (i = 0; i < c->records; i++) {
+        const FenomiraskRecord *r = &s->records[i];
+        if (r->kind > 1 || r->context > 2 || r->chunk > 255 || r->place > 63 || r->pending > 1 || r->safety.code > 2
+            || r->deep.code > 2 || (r->to_perm_var_num != FENOMIRASK_NO_VARIABLE && r->to_perm_var_num >= c->records)
+            || r->num_occurrences > 65535 || r->running_count > 65535 || s->use_counts[i] > 16 || has(s->no_use[i], 0)
+            || has(s->conflict[i], 0))
+            return 0;
+        for (j = 0; j < s->use_counts[i]; j++)
+            if (!is_use(s->use_sets[i][j]))
+                return 0;
+    }
+    for (i = 0; i < FENOMIRASK_REGISTERS; i++) {
+        uint32_t v = s->mappings[i];
+        if (v != FENOMIRASK_NO_VARIABLE && (v >= c->records || s->records[v].kind != 0))
+            return 0;
+    }
+    for (i = 0; i < c->freed_registers; i++)
+        if (!is_within(s->freed_registers[i], 1, 63))
+            return 0;
+    for (i = 0; i < c->freed_slots; i++) {
+        const FenomiraskFreedSlot *freed = &s->freed_slots[(c->first_freed_slot + i) % FENOMIRASK_FREED_SLOTS];
+        if (freed->chunk > 255 || freed->variable >= c->records)
+            return 0;
+    }
+    for (i = 0; i < c->open_branches; i++) {
+        const FenomiraskBranchSets *sets = &s->branch_sets[i];
+        if (s->branch_rows[i].num_branches > 65535 || s->branch_rows[i].current_branch_idx > 65535
+            || !are_variables(s, sets->shallow_safety, 0) || !are_variables(s, sets->deep_safety, 0)
+            || !are_variables(s, sets->subsumed_hits, 1))
+            return 0;
+    }
+    return 1;
+}
+
+/* Calls with a state that is valid or not; a valid one may refuse the line, but not for the state. */
+static void expect_validity(const char *what, const FenomiraskState *state, int valid, unsigned turn)
+{
+    static const char *const lines[] = {"reset\n", "sets\n", "x\n", "take\n", "next\n"};
+    const char *line = turn % 6 == 5 ? NULL : lines[turn % 6];
+    FenomiraskState s = *state;
+    uint8_t text[FENOMIRASK_EVENT_ROOM];
+    int kept;
+    int64_t got = call(&s, line, line == NULL ? 0 : strlen(line), turn % 7 == 0 ? 0 : sizeof text,
+                       (enum placement)(turn % PLACEMENTS), text, &kept);
+    count(kept && (got == -FENOMIRASK_OUTSIDE_SIZE) == !valid, what, valid ? "a valid state" : "no valid state", turn,
+          got, valid ? 0 : -FENOMIRASK_OUTSIDE_SIZE);
+}
+
+static const uint32_t numbers[] = {0,   1,   2,   3,     16,    17,     63,     64,     65,         127,       128,
+                                   129, 255, 256, 65535, 65536, 196607, 196608, 196671, 0x7FFFFFFF, 0xFFFFFFFF};
+enum { NUMBERS = sizeof numbers / sizeof numbers[0] };
+
+/* Whether the number at an offset is the half of a set. */
+static int is_set(size_t at)
+{
+    return at == offsetof(FenomiraskState, counters.in_use)
+           || (at >= offsetof(FenomiraskState, no_use) && at < offsetof(FenomiraskState, mappings))
+           || at >= offsetof(FenomiraskState, branch_sets);
+}
+
+/* A state with one number changed. Returns the bytes of the number. */
+static size_t spoilt(FenomiraskState *s, const FenomiraskState *good, size_t at, unsigned i)
+{
+    *s = *good;
+    if (is_set(at)) {
+        uint64_t set = i == 0 ? ~(uint64_t)1 : (uint64_t)1 << (i - 1) % 64;
+        memcpy((uint8_t *)s + at, &set, sizeof set);
+        return sizeof set;
+    }
+    memcpy((uint8_t *)s + at, &numbers[i % NUMBERS], sizeof numbers[0]);
+    return sizeof numbers[0];
+}
+
+/* Every number of a state, changed to each of some values, alone. */
+static void spoil_all(const char *what, const FenomiraskState *good)
+{
+    size_t at = 0, refused = 0, taken = 0;
+    unsigned turn = 0;
+    count(is_valid(good), what, "a state that is reached", 0, 0, 0);
+    while (at < sizeof *good) {
+        size_t bytes = 4;
+        unsigned i;
+        if (at == offsetof(FenomiraskCounters, open_branches) + 4) {
+            at += 4;
+            continue;
+        }
+        for (i = 0; i < NUMBERS; i++) {
+            FenomiraskState s;
+            int valid;
+            bytes = spoilt(&s, good, at, i);
+            valid = is_valid(&s);
+            *(valid ? &taken : &refused) += 1;
+            /* a value that does not matter is tried once in four times */
+            if (!valid || (at / 4 + turn) % 4 == 0 || i == NUMBERS - 1)
+                expect_validity(what, &s, valid, turn);
+            turn++;
+        }
+        at += bytes;
+    }
+    count(refused > 64 && taken > 64, what, "states that are none", 0, (int64_t)refused, (int64_t)taken);
+}
+
+/* The last number that is inside its size and the first that is not, of each field that has a size. */
+static void spoil_bounds(void)
+{
+#define AT(field) offsetof(FenomiraskState, field), #field
+    static const struct {
+        size_t at;
+        const char *field;
+        uint32_t inside, outside;
+    } bounds[] = {
+        {AT(counters.arg_c), 1, 0},
+        {AT(counters.arg_c), 64, 65},
+        {AT(counters.temp_lb), 1, 0},
+        {AT(counters.temp_lb), 64, 65},
+        {AT(counters.perm_lb), 1, 0},
+        {AT(counters.perm_lb), 64, 65},
+        {AT(counters.arity), 63, 64},
+        {AT(counters.in_tail_position), 1, 2},
+        {AT(counters.records), 6, 65},
+        {AT(counters.records), 64, 1},
+        {AT(counters.events_seen), 1, 2},
+        {AT(counters.freed_registers), 2, 3},
+        {AT(counters.first_freed_slot), 127, 128},
+        {AT(counters.freed_slots), 128, 129},
+        {AT(counters.open_branches), 16, 17},
+        {AT(counters.in_use), 2, 1},
+        {AT(records[0].kind), 1, 2},
+        {AT(records[2].kind), 0, 1},
+        {AT(records[2].context), 2, 3},
+        {AT(records[2].chunk), 255, 256},
+        {AT(records[0].place), 63, 64},
+        {AT(records[0].pending), 1, 2},
+        {AT(records[0].safety.code), 2, 3},
+        {AT(records[0].deep.code), 2, 3},
+        {AT(records[2].to_perm_var_num), 5, 6},
+        {AT(records[2].to_perm_var_num), 64, 63},
+        {AT(records[0].num_occurrences), 65535, 65536},
+        {AT(records[0].running_count), 65535, 65536},
+        {AT(use_sets[2][0]), 1, 0},
+        {AT(use_sets[2][0]), 63, 64},
+        {AT(use_sets[2][0]), 65537, 65281},
+        {AT(use_sets[2][0]), 196415, 196609},
+        {AT(use_counts[2]), 3, 4},
+        {AT(use_counts[2]), 0, 17},
+        {AT(no_use[2]), 2, 1},
+        {AT(conflict[2]), 2, 1},
+        {AT(mappings[0]), 5, 6},
+        {AT(mappings[1]), 64, 65},
+        {AT(mappings[63]), 2, 1},
+        {AT(freed_registers[1]), 1, 0},
+        {AT(freed_registers[1]), 63, 64},
+        {AT(branch_rows[0].num_branches), 65535, 65536},
+        {AT(branch_rows[0].current_branch_idx), 65535, 65536},
+        {AT(branch_sets[0].shallow_safety), 63, 64},
+        {AT(branch_sets[0].deep_safety), 63, 64},
+        {AT(branch_sets[0].subsumed_hits), 3, 4},
+    };
+    FenomiraskState good = reach(reached[1]), s;
+    unsigned i, turn;
+    for (i = 0; i < sizeof bounds / sizeof bounds[0]; i++)
+        for (turn = 0; turn < 6; turn++) {
+            s = good;
+            memcpy((uint8_t *)&s + bounds[i].at, &bounds[i].inside, sizeof bounds[i].inside);
+            expect_validity(bounds[i].field, &s, 1, turn);
+            memcpy((uint8_t *)&s + bounds[i].at, &bounds[i].outside, sizeof bounds[i].outside);
+            expect_validity(bounds[i].field, &s, 0, turn);
+        }
+}
+
+static void spoilt_states(void)
+{
+    int i;
+    spoil_bounds();
+    for (i = 0; i < REACHED; i++) {
+        FenomiraskState good = reach(reached[i]);
+        char what[64];
+        snprintf(what, sizeof what, "state %d, one number changed", i);
+        spoil_all(what, &good);
+    }
+}
+
+/* An event sheet line by line, as fenomirask_events answers it. */
+static int64_t by_lines(const uint8_t *sheet, size_t sheet_bytes, uint8_t *out, size_t room)
+{
+    FenomiraskState state;
+    uint8_t text[FENOMIRASK_EVENT_ROOM];
+    size_t at = 0, line = 0, written = 0;
+    int ended = 0;
+    if (sheet_bytes > FENOMIRASK_SHEET_BYTES)
+        return -FENOMIRASK_FULL;
+    fenomirask_fresh(&state);
+    while (!ended) {
+        const uint8_t *feed;
+        int64_t got;
+        ended = at == sheet_bytes;
+        if (ended) {
+            got = fenomirask_end(&state, text, sizeof text);
+        } else {
+            size_t bytes;
+            feed = memchr(sheet + at, '\n', sheet_bytes - at);
+            bytes = feed == NULL ? sheet_bytes - at : (size_t)(feed - (sheet + at)) + 1;
+            got = fenomirask_event(&state, sheet + at, bytes, text, sizeof text);
+            at += bytes;
+            line++;
+        }
+        if (FENOMIRASK_REFUSED(got))
+            return FENOMIRASK_LINE(got) == 1 ? got - 16 * (int64_t)(line - 1) : got;
+        if (written + (size_t)got <= room)
+            memcpy(out + written, text, (size_t)got);
+        written += (size_t)got;
+    }
+    return written <= room ? (int64_t)written : -FENOMIRASK_NO_ROOM;
+}
+
+/* A sheet of a stream line by line, with guards: to the same answer, and no state is refused on the way. Each line that
+ * prints something is given with too little room first, and at the end the state is spoilt here and there. */
+static void expect_by_lines(const char *what, const struct function *f, const uint8_t *sheet, size_t sheet_bytes,
+                            int64_t wanted)
+{
+    static uint8_t whole[LARGE_ROOM], text[LARGE_ROOM + 2 * FENOMIRASK_EVENT_ROOM];
+    static unsigned turn;
+    static size_t spoilt_at;
+    FenomiraskState state, s;
+    size_t at = 0, line = 0, written = 0, bytes;
+    int64_t got = 0;
+    int kept, i;
+    if (sheet_bytes > FENOMIRASK_SHEET_BYTES)
+        return;
+    if (wanted >= 0 || wanted == -FENOMIRASK_NO_ROOM)
+        wanted = f->answer(sheet, sheet_bytes, whole, sizeof whole);
+    fenomirask_fresh(&state);
+    while (at < sheet_bytes && written <= LARGE_ROOM) {
+        const uint8_t *feed = memchr(sheet + at, '\n', sheet_bytes - at);
+        bytes = feed == NULL ? sheet_bytes - at : (size_t)(feed - (sheet + at)) + 1;
+        s = state;
+        line++;
+        got = call(&state, sheet + at, bytes, FENOMIRASK_EVENT_ROOM, (enum placement)(turn++ % PLACEMENTS),
+                   text + written, &kept);
+        count(kept && (got >= 0 || FENOMIRASK_LINE(got) == 1), what, "a line", line, got, 0);
+        if (got > 0 && turn % 4 == 0) {
+            uint8_t none[FENOMIRASK_EVENT_ROOM];
+            int64_t short_got =
+                call(&s, sheet + at, bytes, (size_t)got - 1, (enum placement)(turn % PLACEMENTS), none, &kept);
+            count(kept && short_got == -FENOMIRASK_NO_ROOM, what, "a line, room", (size_t)got - 1, short_got,
+                  -FENOMIRASK_NO_ROOM);
+        }
+        if (got < 0)
+            break;
+        written += (size_t)got;
+        at += bytes;
+    }
+    if (got < 0) {
+        got -= 16 * (int64_t)(line - 1);
+        count(got == wanted, what, "line by line", line, got, wanted);
+        got = call(&state, NULL, 0, FENOMIRASK_EVENT_ROOM, AT_END, text, &kept);
+        count(kept && got > 0, what, "the end after a refusal", 0, got, 0);
+    } else {
+        got =
+            call(&state, NULL, 0, FENOMIRASK_EVENT_ROOM, (enum placement)(turn++ % PLACEMENTS), text + written, &kept);
+        written += got < 0 ? 0 : (size_t)got;
+        count(kept && got > 0 && (int64_t)written == wanted && memcmp(text, whole, written) == 0, what, "line by line",
+              line, (int64_t)written, wanted);
+    }
+    for (i = 0; i < SPOILT_EACH; i++) {
+        /* a prime number of numbers further each time: all have their turn */
+        spoilt_at = (spoilt_at + 4 * 1009) % sizeof state;
+        if (spoilt_at == offsetof(FenomiraskCounters, open_branches) + 4 || (is_set(spoilt_at) && spoilt_at % 8 != 0))
+            continue;
+        spoilt(&s, &state, spoilt_at, turn);
+        expect_validity(what, &s, is_valid(&s), turn++);
+    }
+}
+
+/* ---- Sheets of a stream */
+
+struct sheet {
+    const struct function *function;
+    const uint8_t *sheet, *text;
+    size_t sheet_bytes, text_bytes;
+    int64_t wanted; /* with ROOM bytes of room */
+};
+
+struct stream {
+    const char *path;
+    struct sheet *sheets;
+    size_t count;
+};
+
+static void malformed(const char *path, size_t number)
+{
+    printf("malformed: %s, sheet %zu\n", path, number);
+    exit(1);
+}
+
+static uint8_t *read_all(const char *path, size_t *bytes)
+{
+    FILE *file = fopen(path, "rb");
+    uint8_t *data = NULL;
+    size_t room = 0, got;
+    *bytes = 0;
+    if (file == NULL) {
+        perror(path);
+        exit(2);
+    }
+    do {
+        room = room * 2 + 65536;
+        data = realloc(data, room + 1);
+        if (data == NULL) {
+            perror(path);
+            exit(2);
+        }
+        got = fread(data + *bytes, 1, room - *bytes, file);
+        *bytes += got;
+    } while (*bytes == room);
+    fclose(file);
+    data[*bytes] = 0;
+    return data;
+}
+
+/* The number that a printed answer stands for. */
+static int64_t wanted_of(const uint8_t *text, size_t bytes)
+{
+    unsigned long line;
+    int refusal;
+    if (bytes < 3 || memcmp(text, "no\t", 3) != 0)
+        return (int64_t)bytes;
+    if (sscanf((const char *)text, "no\t%lu\t%d", &line, &refusal) != 2)
+        return 0;
+    return -(int64_t)(16 * line + (unsigned)refusal);
+}
+
+static struct stream read_stream(const char *path)
+{
+    struct stream stream = {path, NULL, 0};
+    size_t bytes, at = 0;
+    const uint8_t *data = read_all(path, &bytes);
+    while (at < bytes) {
+        char word[16];
+        struct sheet one;
+        int used = 0, i;
+        if (sscanf((const char *)data + at, "%15[a-z]\t%zu\t%zu%n", word, &one.sheet_bytes, &one.text_bytes, &used) != 3
+            || data[at + (size_t)used] != '\n')
+            malformed(path, stream.count + 1);
+        at += (size_t)used + 1;
+        one.function = NULL;
+        for (i = 0; i < FUNCTIONS; i++)
+            if (strcmp(word, functions[i].word) == 0)
+                one.function = &functions[i];
+        if (one.function == NULL || one.sheet_bytes > bytes - at || one.text_bytes > bytes - at - one.sheet_bytes
+            || one.text_bytes == 0 || one.sheet_bytes > 2 * FENOMIRASK_SHEET_BYTES || one.text_bytes > ROOM)
+            malformed(path, stream.count + 1);
+        one.sheet = data + at;
+        one.text = one.sheet + one.sheet_bytes;
+        one.wanted = wanted_of(one.text, one.text_bytes);
+        at += one.sheet_bytes + one.text_bytes;
+        if ((stream.count & (stream.count - 1)) == 0)
+            stream.sheets = realloc(stream.sheets, (2 * stream.count + 1) * sizeof one);
+        if (stream.sheets == NULL) {
+            perror(path);
+            exit(2);
+        }
+        stream.sheets[stream.count++] = one;
+    }
+    return stream;
+}
+
+static void run_stream(const struct stream *stream)
+{
+    size_t i;
+    for (i = 0; i < stream->count; i++) {
+        const struct sheet *one = &stream->sheets[i];
+        char what[64];
+        snprintf(what, sizeof what, "sheet %zu of the stream", i + 1);
+        if (one->wanted >= 0)
+            expect_text(what, one->function, one->sheet, one->sheet_bytes, ROOM, one->text, one->text_bytes);
+        else
+            expect_refusal(what, one->function, one->sheet, one->sheet_bytes, FENOMIRASK_LINE(one->wanted),
+                           FENOMIRASK_REFUSAL(one->wanted));
+        if (one->wanted == -FENOMIRASK_NO_ROOM)
+            expect_longer(what, one->function, one->sheet, one->sheet_bytes);
+        if (one->function == &functions[0])
+            expect_by_lines(what, one->function, one->sheet, one->sheet_bytes, one->wanted);
+    }
+}
+
+/* ---- Threads at once, each with no more stack than the header says */
+
+/* Whose sheets a thread takes, and how it comes to the answers. */
+static const struct work {
+    const struct function *function;
+    sheet_function *answer;
+    size_t stack;
+} works[] = {
+    {&functions[0], fenomirask_events, FENOMIRASK_EVENTS_STACK},
+    {&functions[1], fenomirask_check, FENOMIRASK_CHECK_STACK},
+    {&functions[0], by_lines, FENOMIRASK_EVENT_STACK},
+};
+enum { WORKS = sizeof works / sizeof works[0] };
+
+struct thread {
+    const struct stream *stream;
+    const struct work *work;
+    uint8_t *out;
+    size_t passed, failed;
+};
+
+static void *run_thread(void *lent)
+{
+    struct thread *thread = lent;
+    size_t i;
+    for (i = 0; i < thread->stream->count; i++) {
+        const struct sheet *one = &thread->stream->sheets[i];
+        int64_t got;
+        if (one->function != thread->work->function)
+            continue;
+        got = thread->work->answer(one->sheet, one->sheet_bytes, thread->out, ROOM);
+        if (got == one->wanted && (got < 0 || memcmp(thread->out, one->text, one->text_bytes) == 0))
+            thread->passed++;
+        else
+            thread->failed++;
+    }
+    return NULL;
+}
+
+static void run_threads(const struct stream *stream)
+{
+    struct thread threads[WORKS * THREADS];
+    pthread_t ids[WORKS * THREADS];
+    int i;
+    for (i = 0; i < WORKS * THREADS; i++) {
+        struct thread fresh = {stream, &works[i % WORKS], malloc(ROOM), 0, 0};
+        pthread_attr_t attributes;
+        threads[i] = fresh;
+        if (fresh.out == NULL || pthread_attr_init(&attributes) != 0
+            || pthread_attr_setstacksize(&attributes, fresh.work->stack) != 0
+            || pthread_create(&ids[i], &attributes, run_thread, &threads[i]) != 0) {
+            printf("tests: no thread\n");
+            exit(2);
+        }
+        pthread_attr_destroy(&attributes);
+    }
+    for (i = 0; i < WORKS * THREADS; i++) {
+        pthread_join(ids[i], NULL);
+        free(threads[i].out);
+        passed += threads[i].passed;
+        failed += threads[i].failed;
+        if (threads[i].failed != 0)
+            printf("failed: %zu sheets in thread %d\n", threads[i].failed, i + 1);
+    }
+}
+
+int main(int words, char **paths)
+{
+    int i;
+    sheets = new_area(2 * FENOMIRASK_SHEET_BYTES);
+    rooms = new_area(LARGE_ROOM);
+    states = new_area(sizeof(FenomiraskState));
+    whole_sheets();
+    fresh_states();
+    fields();
+    single_lines();
+    spoilt_states();
+    for (i = 1; i < words; i++) {
+        struct stream stream = read_stream(paths[i]);
+        run_stream(&stream);
+        run_threads(&stream);
+        printf("%zu sheets of a stream\n", stream.count);
+    }
+    printf("%zu passed, %zu failed\n", passed, failed);
+    return failed != 0;
+}
