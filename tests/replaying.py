@@ -1,5 +1,5 @@
-"""What the scripts around the program `replays` share: sheets in frames, streams of sheets with their answers, and
-the runs of the built programs on them.
+"""What the scripts around the judges and the built programs share: sheets in frames, streams of sheets with their
+answers, the two kinds of sheets, and the runs of the programs on them.
 
 A frame is a decimal byte count, an LF, and so many bytes. In a stream each sheet is led by a line: its kind, `events`
 or `check`, the bytes of the sheet and those of its answer; behind it stand the sheet and the answer.
@@ -26,13 +26,15 @@ SHOWN = 5
 
 @dataclasses.dataclass
 class Kind:
-    """A kind of sheet: its word, its program, where its generator is, who judges its sheets, the words of its lines."""
+    """A kind of sheet: its word, its program, where its generator is, who judges its sheets, the words of its lines,
+    and the answers that have to come up in a run."""
 
     word: bytes
     program: str
     generator: str
     judged: Callable
     line_words: list
+    wanted: list
 
 
 # ---- Frames and streams
@@ -115,6 +117,31 @@ def judged_check(sheets):
 def check_case_sheets():
     """The sheets of the decider's case files but those that lend another room."""
     return frames(output([os.path.join(DECIDER, "cases"), "--sheets", *CHECK_CASES]))
+
+
+INSTRUCTIONS = (
+    b"get_variable get_value put_variable put_value put_unsafe_value set_variable set_value set_local_value "
+    b"unify_variable unify_value unify_local_value"
+).split()
+EVENTS = Kind(
+    word=b"events",
+    program="event_sheet",
+    generator=ORACLE,
+    judged=judged_events,
+    line_words=(
+        b"temp perm sets head args var anon nonvar cut incr free safe give tail next open arm take close reset contents "
+        b"clearfree"
+    ).split(),
+    wanted=["end", *(f"refused {number}" for number in (1, 2, 3, 4, 5, 6, 7, 9))],
+)
+CHECK = Kind(
+    word=b"check",
+    program="check_sheet",
+    generator=DECIDER,
+    judged=judged_check,
+    line_words=[*b"h hd g gd call".split(), *INSTRUCTIONS],
+    wanted=["accepted", "rejected", *(f"refused {number}" for number in (1, 2, 3, 7))],
+)
 
 
 # ---- The program `replays`
@@ -212,9 +239,13 @@ class Counts:
     differ: int = 0
     failed: int = 0
 
+    def status(self):
+        """The exit status of a run with these counts."""
+        return 1 if self.differ or self.failed else 0
 
-def compare(kind, title, sheets, counts):
-    """Replays sheets with the judge's answers, and again with one of them falsified."""
+
+def compare(kind, title, sheets, counts, progress=sys.stdout):
+    """Replays sheets with the judge's answers, and again with one of them falsified; prints those that differ."""
     answers = kind.judged(sheets)
     for sheet, answer in zip(sheets, answers, strict=True):
         counts.answers[told(answer)] += 1
@@ -224,14 +255,25 @@ def compare(kind, title, sheets, counts):
     counts.differ += len(found)
     counts.failed += not seen
     falsely = "seen" if seen else "NOT SEEN"
-    print(f"{title}: {len(sheets)} compared, {len(found)} differ; a falsified answer is {falsely}", flush=True)
+    line = f"{title}: {len(sheets)} compared, {len(found)} differ; a falsified answer is {falsely}"
+    print(line, file=progress, flush=True)
     for number in found[:SHOWN]:
-        print(f"  sheet {number}: {sheets[number - 1][-200:]!r}, wanted {answers[number - 1][-80:]!r}")
+        print(f"  {title}, sheet {number}: {sheets[number - 1][-200:]!r}, wanted {answers[number - 1][-80:]!r}")
 
 
-def run(kind, first, runs, wanted):
+def show_counts(kind, counts):
+    """Prints how often each answer and each word came up; how many answers are wanted and never came up."""
+    print("answers", ", ".join(f"{answer}: {counts.answers[answer]}" for answer in sorted(counts.answers)))
+    print("lines", ", ".join(f"{word.decode()}: {counts.words[word]}" for word in kind.line_words))
+    missing = [answer for answer in kind.wanted if not counts.answers[answer]]
+    if missing:
+        print("never answered:", ", ".join(missing))
+    return len(missing)
+
+
+def run(kind, first, runs):
     """Compares `first`, sheets with a title each, and COUNT generated sheets for each SEED, as the command's words say;
-    then `runs` of the program alone. Fails, too, where an answer that is wanted is not among all these."""
+    then `runs` of the program alone."""
     numbers = [int(word) for word in sys.argv[1:]]
     count, seeds = (numbers or [20_000])[0], numbers[1:] or range(1, 7)
     counts = Counts()
@@ -239,11 +281,6 @@ def run(kind, first, runs, wanted):
         compare(kind, title, sheets, counts)
     for seed in seeds:
         compare(kind, f"seed {seed}", generated(kind.generator, seed, count), counts)
-    print("answers", ", ".join(f"{answer}: {counts.answers[answer]}" for answer in sorted(counts.answers)))
-    print("lines", ", ".join(f"{word.decode()}: {counts.words[word]}" for word in kind.line_words))
-    missing = [answer for answer in wanted if not counts.answers[answer]]
-    if missing:
-        print("never answered:", ", ".join(missing))
-    counts.failed += len(missing) + run_alone(kind.program, runs) + run_malformed()
+    counts.failed += show_counts(kind, counts) + run_alone(kind.program, runs) + run_malformed()
     print(f"in all: {counts.answers.total()} compared, {counts.differ} differ; {counts.failed} other failures")
-    return 1 if counts.differ or counts.failed else 0
+    return counts.status()

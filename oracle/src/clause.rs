@@ -51,7 +51,8 @@ impl Clause {
         Ok(printed)
     }
 
-    fn step(&mut self, event: &Event, printed: &mut Printed) {
+    /// Carries out an event and asks nothing.
+    pub(crate) fn step(&mut self, event: &Event, printed: &mut Printed) {
         let allocator = &mut self.allocator;
         match *event {
             Event::Sets => allocator.var_data.records.populate_restricting_sets(),

@@ -15,6 +15,7 @@ mod stop;
 pub mod frames;
 pub mod judge;
 pub mod limits;
+pub mod plain;
 pub mod program;
 pub mod refusal;
 pub mod tally;

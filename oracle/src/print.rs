@@ -24,6 +24,11 @@ impl Printed {
         }
     }
 
+    pub(crate) fn clear(&mut self) {
+        self.code.clear();
+        self.set_place(NO_PLACE);
+    }
+
     pub(crate) fn set_place(&self, place: RegType) {
         self.cell.set(VarReg::Norm(place));
     }

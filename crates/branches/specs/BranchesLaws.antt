@@ -3,7 +3,7 @@
 use Prim.Native.Nat.{ℕ, _+_, _-_, _≤_, _<_}
 use mathlib.Core.Path.{_≡_, refl, ap, _∙_}
 use mathlib.Core.Bool.{true, false, _&&_, _||_}
-use mathlib.Core.List.{List, _∷_}
+use mathlib.Core.List.{List, [], _∷_}
 use native.Mathlib.Numerals.{add-one}
 use lib.ListN.{length, getD, drop, drop-of-length-le}
 use lib.Seq.{drop-cons}
@@ -15,7 +15,7 @@ use Rattle.branches.specs.declared.Popped.the-variants.{Left}
 use Rattle.branches.specs.declared.Taken.the-variants.{Took}
 use Rattle.notation.specs.Lists.{numbersFrom}
 use Rattle.branches.specs.Lists.{membersAmong, members, each}
-use Rattle.branches.specs.ListLaws.{numbers-more, numbers-none}
+use Rattle.branches.specs.ListLaws.{numbers-more}
 use Rattle.branches.specs.Branches.{namesTemporary, noGuards, guardsAt, guardsIfMember, insertedIf, shallowTaken, deepTaken}
 use Rattle.branches.specs.Branches.{rowsTop, setsTop, withSubsumed, branchMet, variableClosed, occurrencesAdded, popped, leftOnTop, recordsPopped, rowsPopped, setsPopped}
 use Rattle.branches.specs.Branches.{topOf, safetyTaken, variablePended, taken, recordsTaken, rowsTaken, setsTaken}
@@ -63,9 +63,11 @@ module _ (records : List ℕ) where
         ≡ namesTemporary records (membersAmong set (numbersFrom (i + 1) (n - (i + 1))))
     member-miss h e = rw (numbers-more i n h) (member-next _ ∙ simp e)
 
-    pub member-end : n ≤ i → namesTemporary records (membersAmong set (numbersFrom i (n - i))) ≡ false
-    unfolding namesTemporary membersAmong
-    member-end h = rw (numbers-none i n h)
+    pub member-end :
+        membersAmong set (numbersFrom i (n - i)) ≡ []
+        → namesTemporary records (membersAmong set (numbersFrom i (n - i))) ≡ false
+    unfolding namesTemporary
+    member-end none = ap (namesTemporary records) none
 
 -- ---- What is done for the members of a set only
 

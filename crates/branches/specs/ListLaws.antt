@@ -1,17 +1,21 @@
 -- Laws of words on lists: a loop that makes a step for each entry, one turn at a time. `whole` is what the whole list
 -- makes; what is left of the list makes it from what the loop has so far.
-use Prim.Native.Nat.{ℕ, suc, _+_, _-_, _≤_, _<_}
+use Prim.Native.Nat.{ℕ, zero, suc, _+_, _-_, _/_, _%_, _^_, _≤_, _<_}
 use mathlib.Core.Path.{_≡_, refl, ap, sym, _∙_}
-use mathlib.Core.Bool.{true, false}
+use mathlib.Core.Bool.{Bool, true, false, not}
 use mathlib.Core.List.{List, [], _∷_}
 use native.Mathlib.Omega.{arith}
 use native.Mathlib.Numerals.{add-one}
+use lib.Dec.{eqb, ltb}
 use lib.ListN.{length, getD, drop, drop-of-length-le}
+use lib.Pow.{shr-shr}
 use lib.Seq.{drop-cons}
+use borrow.Author.Tests.{ltb-true, ltb-false, eqb-true, not-false}
 use Rattle.notation.specs.Choice.{if_then_else_}
+use Rattle.sizes.specs.Sizes.{variables}
 use Rattle.bit_set.specs.BitSet.{has}
 use Rattle.notation.specs.Lists.{numbersFrom}
-use Rattle.branches.specs.Lists.{membersAmong, each}
+use Rattle.branches.specs.Lists.{membersAmong, hasFrom, each}
 
 -- ---- The numbers from i on that are below n
 
@@ -34,6 +38,40 @@ members-some set v vs e = simp e
 pub members-less : (set v : ℕ) (vs : List ℕ) → has set v ≡ false → membersAmong set (v ∷ vs) ≡ membersAmong set vs
 unfolding membersAmong
 members-less set v vs e = simp e
+
+-- ---- A loop over the members of a set, which tests at v whether one is left
+
+none-among : (set v n : ℕ) → set / 2 ^ v ≡ 0 → membersAmong set (numbersFrom v n) ≡ []
+unfolding membersAmong numbersFrom has
+none-among set v zero e = refl
+none-among set v (suc n) e =
+    let less : has set v ≡ false = ap (λ (x : ℕ). eqb (x % 2) 1) e in
+    let next : set / 2 ^ suc v ≡ 0 =
+    ap (λ (k : ℕ). set / 2 ^ k) (sym (add-one v)) ∙ sym (shr-shr set v 1) ∙ ap (λ (x : ℕ). x / 2 ^ 1) e
+    in
+    members-less set v (numbersFrom (suc v) n) less ∙ none-among set (suc v) n next
+
+module _ (set v : ℕ) {test : Bool} (tested : test ≡ hasFrom set v) where
+  pub from-below : test ≡ true → v < variables
+  unfolding hasFrom
+  from-below e =
+      elim (ltb v variables) as
+      (λ t. ltb v variables ≡ t → (if t then not (eqb (set / 2 ^ v) 0) else false) ≡ true → v < variables) [
+        | true ↦ λ h some. ltb-true _ _ h
+        | false ↦ λ h some. ltb-true _ _ (h ∙ some)
+      ]
+      refl (sym tested ∙ e)
+
+  pub from-none : test ≡ false → membersAmong set (numbersFrom v (variables - v)) ≡ []
+  unfolding hasFrom membersAmong
+  from-none e =
+      elim (ltb v variables) as
+      (λ t. ltb v variables ≡ t → (if t then not (eqb (set / 2 ^ v) 0) else false) ≡ false
+      → membersAmong set (numbersFrom v (variables - v)) ≡ []) [
+        | true ↦ λ h none. none-among set v _ (eqb-true _ _ (not-false _ none))
+        | false ↦ λ h none. ap (membersAmong set) (numbers-none v variables (ltb-false _ _ h))
+      ]
+      refl (sym tested ∙ e)
 
 -- ---- A step for each entry
 
@@ -85,7 +123,7 @@ module _ {A : Type 0} (step : A → ℕ → A) where
           rw made (member-step a _ ∙ sym (ap (λ (ns : List ℕ). each step a (membersAmong set ns)) (numbers-more i n h)) ∙ e)
 
       pub each-member-end :
-          {a whole : A} → each step a (membersAmong set (numbersFrom i (n - i))) ≡ whole → n ≤ i → a ≡ whole
-      unfolding each membersAmong
-      each-member-end {a} {whole} e h =
-          sym (ap (λ (ns : List ℕ). each step a (membersAmong set ns)) (numbers-none i n h)) ∙ e
+          {a whole : A} → each step a (membersAmong set (numbersFrom i (n - i))) ≡ whole
+          → membersAmong set (numbersFrom i (n - i)) ≡ [] → a ≡ whole
+      unfolding each
+      each-member-end {a} {whole} e none = sym (ap (each step a) none) ∙ e

@@ -1,6 +1,8 @@
 -- The members of a set as a list, and a step made for each entry of a list.
-use Prim.Native.Nat.{ℕ}
+use Prim.Native.Nat.{ℕ, _/_, _^_}
+use mathlib.Core.Bool.{Bool, false, not}
 use mathlib.Core.List.{List, [], _∷_}
+use lib.Dec.{eqb, ltb}
 use Rattle.notation.specs.Choice.{if_then_else_}
 use Rattle.notation.specs.Lists.{numbersFrom}
 use Rattle.sizes.specs.Sizes.{variables}
@@ -14,6 +16,10 @@ membersAmong set (v ∷ vs) = if has set v then v ∷ membersAmong set vs else m
 -- the members of a set of variables, in order
 abbrev pub members : ℕ → List ℕ
 members set = membersAmong set (numbersFrom 0 variables)
+
+-- whether a member of a set of variables is v or above
+unfoldable pub hasFrom : ℕ → ℕ → Bool
+hasFrom set v = if ltb v variables then not (eqb (set / 2 ^ v) 0) else false
 
 -- what becomes of something when a step is made for each entry of a list
 unfoldable pub each : {A : Type 0} → (A → ℕ → A) → A → List ℕ → A

@@ -3,7 +3,7 @@ ghost use mathlib.Core.Path.{_≡_};
 ghost use mathlib.Core.Bool.{_&&_};
 ghost use Rattle.bit_set.specs.BitSet.{has, inserted};
 ghost use Rattle.variable_records.specs.Rows.{isTemporary};
-ghost use Rattle.branches.specs.Lists.{members, each};
+ghost use Rattle.branches.specs.Lists.{members, hasFrom, each};
 ghost use Rattle.branches.specs.Branches.{topOf, rowsTop, setsTop, namesTemporary};
 ghost use Rattle.branches.specs.Branches.{opening, rowsOpened, setsOpened};
 ghost use Rattle.branches.specs.Branches.{advanced, rowsAdvanced, setsAdvanced};
@@ -309,6 +309,17 @@ pub fn pop_branch(
     Popped::Left(left)
 }
 
+// Whether some member of a set is `v` or above: a loop over the members ends where none is left.
+fn has_from(set: BitSet, v: u32) -> bool
+    ensures { λ r. ⌜ r ≡ hasFrom set v ⌝ }
+{
+    if v < VARIABLES as u32 {
+        set >> v != 0
+    } else {
+        false
+    }
+}
+
 // Whether a variable is a member of a set, and a temporary.
 fn is_temporary_member(records: &Records, set: BitSet, v: u32) -> bool
     ensures { λ r. ⌜ r ≡ (has set v && isTemporary (now (records .entry)) v) ⌝ }
@@ -324,7 +335,7 @@ fn holds_temporary(records: &Records, set: BitSet) -> bool
     ensures { λ r. ⌜ r ≡ namesTemporary (now (records .entry)) (members set) ⌝ }
 {
     let mut v = 0;
-    while v < VARIABLES as u32 {
+    while has_from(set, v) {
         if is_temporary_member(records, set, v) {
             return true;
         }
@@ -395,7 +406,7 @@ fn take_safety(records: &Records, top: BranchOccurrences) -> BranchOccurrences
     let mut shallow = top.shallow_safety;
     let mut deep = top.deep_safety;
     let mut v = 0;
-    while v < VARIABLES as u32 {
+    while has_from(top.subsumed_hits, v) {
         let guards = member_guards(records, top, v);
         shallow = insert_if(shallow, v, guards.shallow);
         deep = insert_if(deep, v, guards.deep);
@@ -452,7 +463,7 @@ fn pend_members(records: &mut Records, set: BitSet)
     ensures { λ _. ⌜ now (records .exit) ≡ each variablePended (now (records .entry)) (members set) ⌝ }
 {
     let mut v = 0;
-    while v < VARIABLES as u32 {
+    while has_from(set, v) {
         pend_member(records, set, v);
         v += 1;
     }

@@ -5,7 +5,7 @@ use lib.Dec.{eqb}
 use lib.ListN.{drop}
 use Rattle.notation.specs.Choice.{if_then_else_}
 use Rattle.notation.specs.Text.{bytes}
-use Rattle.words.specs.Words.{same}
+use Rattle.words.specs.Words.{codeAmong}
 use Rattle.registers.specs.declared.RegType.{RegType}
 use Rattle.instructions.specs.declared.Instruction.{Instruction}
 use Rattle.instructions.specs.declared.Instruction.the-variants.{GetVariable, GetValue, PutVariable, PutValue, SetVariable, SetValue, SetLocalValue, UnifyVariable, UnifyValue, UnifyLocalValue}
@@ -20,11 +20,6 @@ placeWords = drop 5 words
 -- `call` stands alone; two words have one number; two have two; and then come the instructions
 abbrev pub lineWords : List (List ℕ)
 lineWords = bytes "call" ∷ bytes "hd" ∷ bytes "gd" ∷ bytes "h" ∷ bytes "g" ∷ words
-
--- the number of a word among words that are numbered from `first` on; 0 where it is none of them
-unfoldable pub codeAmong : ℕ → List (List ℕ) → List ℕ → ℕ
-codeAmong first [] word = 0
-codeAmong first (known ∷ others) word = if same word known then first else codeAmong (suc first) others word
 
 unfoldable pub wordCode : List ℕ → ℕ
 wordCode word = codeAmong 1 lineWords word

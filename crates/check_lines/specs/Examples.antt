@@ -4,7 +4,7 @@ use mathlib.Core.Path.{_≡_, refl}
 use mathlib.Core.List.{List, [], _∷_, map}
 use Rattle.notation.specs.Text.{bytes}
 use Rattle.split.specs.Split.{split, inFront}
-use Rattle.words.specs.Words.{same}
+use Rattle.words.specs.Words.{same, codeAmong}
 use Rattle.numbers.specs.Numbers.{numberOf, isNumber, allDigits, isDigit, valueFrom, needlessZero}
 use Rattle.registers.specs.declared.RegType.the-variants.{Temp, Perm}
 use Rattle.instructions.specs.declared.Instruction.the-variants.{GetVariable, GetValue, PutVariable, PutValue, PutUnsafeValue, SetVariable, SetValue, SetLocalValue, UnifyVariable, UnifyValue, UnifyLocalValue}
@@ -12,7 +12,7 @@ use Rattle.steps.specs.declared.Step.the-variants.{Head, HeadDeep, Goal, GoalDe
 use Rattle.steps.specs.declared.CheckLine.the-variants.{Begins, Does}
 use Rattle.check_lines.specs.declared.Line.{Line}
 use Rattle.check_lines.specs.declared.Line.the-variants.{Malformed, Says}
-use Rattle.check_lines.specs.Codes.{codeAmong, wordCode, deepStep, argumentStep, argumentInstruction, placeInstruction}
+use Rattle.check_lines.specs.Codes.{wordCode, deepStep, argumentStep, argumentInstruction, placeInstruction}
 use Rattle.check_lines.specs.CheckLines.{placeOf, argumentOf, callLine, oneField, withOneField, twoFields, withTwoFields, saidBy, fieldsSay, lineSays}
 
 -- each word, in document 01's order; a number outside its size has its form all the same

@@ -12,7 +12,7 @@ use Rattle.notation.specs.Text.{bytes}
 use Rattle.sizes.specs.Sizes.{largestNumber}
 use Rattle.split.specs.Split.{tab, lineFeed, joined}
 use Rattle.split.specs.SplitTrips.{free, allFree, split-joined}
-use Rattle.words.specs.Words.{same}
+use Rattle.words.specs.Words.{same, codeAmong}
 use Rattle.numbers.specs.Numbers.{digit, written, decimal}
 use Rattle.numbers.specs.NumberTrips.{printed-is-read}
 use Rattle.registers.specs.declared.RegType.{RegType}
@@ -26,7 +26,7 @@ use Rattle.instructions.specs.InstructionsLaws.{text-by-number}
 use Rattle.steps.specs.declared.CheckLine.the-variants.{Does}
 use Rattle.check_lines.specs.declared.Line.the-variants.{Says}
 use Rattle.check_lines.specs.declared.PlaceField.the-variants.{Of as ofPlace}
-use Rattle.check_lines.specs.Codes.{codeAmong, wordCode, argumentInstruction, placeInstruction}
+use Rattle.check_lines.specs.Codes.{wordCode, argumentInstruction, placeInstruction}
 use Rattle.check_lines.specs.CheckLines.{placeOf, argumentOf, oneField, withOneField, twoFields, withTwoFields, saidBy, fieldsSay, lineSays}
 use Rattle.check_lines.specs.CheckLinesLaws.{said-two, said-place}
 

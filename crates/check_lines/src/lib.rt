@@ -2,10 +2,10 @@
 // are judged with the lines before it (`steps::judge`).
 ghost use mathlib.Core.Path.{_≡_};
 ghost use Rattle.split.specs.Split.{tab};
+ghost use Rattle.words.specs.Words.{codeAmong};
 ghost use Rattle.fields.specs.Fields.{fieldsLeft};
 ghost use Rattle.instructions.specs.Codes.{words as instructionWords};
 ghost use Rattle.check_lines.specs.Codes.{
-  codeAmong,
   wordCode,
   placeWords,
   deepStep,

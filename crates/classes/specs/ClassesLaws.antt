@@ -4,7 +4,6 @@ use mathlib.Core.Path.{_≡_, refl, sym, ap, _∙_}
 use mathlib.Core.Bool.{Bool, true, false, _&&_, and-assoc, and-false}
 use mathlib.Core.List.{List, [], _∷_, _++_, map}
 use mathlib.Core.Logic.{_⊎_, inl, inr, ⊎-elim}
-use native.Mathlib.Nat.{add-zero}
 use native.Mathlib.Numerals.{add-one, add-two}
 use native.Mathlib.Omega.{arith}
 use lib.Dec.{eqb}
@@ -14,6 +13,7 @@ use borrow.Author.Tests.{lt-ltb, le-ltb, ltb-true, eq-eqb, ne-eqb}
 use Rattle.notation.specs.Choice.{if_then_else_}
 use Rattle.notation.specs.ChoiceLaws.{both-true}
 use Rattle.notation.specs.Lists.{numbersFrom}
+use Rattle.notation.specs.ListLaws.{length-numbers, getD-numbers}
 use Rattle.classes.specs.Cases.{true-or-false, less-or-not, same-or-not}
 use Rattle.classes.specs.Classes.{names, pairsOf, bothNames, inNames, labelOf, exchanged, joined, labelsAfter, ownLabels, labelling, allSame}
 
@@ -65,17 +65,6 @@ getD-either : (l : List ℕ) (i d e : ℕ) → i < length l → getD l i d ≡ g
 getD-either [] i d e h = absurd (omega arith)
 getD-either (n ∷ l) zero d e h = refl
 getD-either (n ∷ l) (suc i) d e h = getD-either l i d e (omega arith)
-
-length-numbers : (first n : ℕ) → length (numbersFrom first n) ≡ n
-unfolding numbersFrom
-length-numbers first zero = refl
-length-numbers first (suc n) = ap suc (length-numbers (suc first) n)
-
-getD-numbers : (first n i d : ℕ) → i < n → getD (numbersFrom first n) i d ≡ first + i
-unfolding numbersFrom
-getD-numbers first zero i d h = absurd (omega arith)
-getD-numbers first (suc n) zero d h = sym (add-zero first)
-getD-numbers first (suc n) (suc i) d h = getD-numbers (suc first) n i d (omega arith) ∙ omega arith
 
 -- ---- The label of a number
 

@@ -11,7 +11,6 @@ use lib.Seq.{take-all}
 use borrow.Author.Tests.{le-leb, lt-ltb, le-ltb}
 use Rattle.notation.specs.Choice.{if_then_else_}
 use Rattle.refusals.specs.Refusals.{refusedForm, refusedSize, refusedRoom}
-use Rattle.sizes.specs.Sizes.{sheetBytes}
 use Rattle.split.specs.Split.{lineFeed, before, after, split, inFront}
 use Rattle.split.specs.SplitLaws.{split-last, split-more, split-some, take-before, drop-before}
 use Rattle.printing.specs.Printing.{printed, placeAfter, Put}
@@ -20,7 +19,7 @@ use Rattle.events.specs.declared.Event.{Event}
 use Rattle.event_lines.specs.declared.Line.{Line}
 use Rattle.event_lines.specs.declared.Line.the-variants.{Malformed, Says}
 use Rattle.event_lines.specs.EventLines.{lineSays, lineList}
-use Rattle.event_lines.specs.EventLinesLaws.{list-read, list-le}
+use Rattle.event_lines.specs.EventLinesLaws.{list-read}
 use Rattle.debray_allocator.specs.declared.State.{State}
 use Rattle.debray_allocator.specs.declared.Answer.{Answer}
 use Rattle.debray_allocator.specs.DebrayAllocator.{refusedWith, stepped}
@@ -44,12 +43,12 @@ module _ (line : List ℕ) {said : Line} (e : said ≡ lineSays line) where
 
   module _
       (list : List ℕ) {event : Event} {count : ℕ} {read : List ℕ} (m : said ≡ Says event count)
-      (room : length list ≡ sheetBytes) (told : read ≡ printed list 0 (lineList line)) where
+      (room : length (lineList line) ≤ length list) (told : read ≡ printed list 0 (lineList line)) where
     entries-read : (take count (printed list 0 (lineList line)) ≡ lineList line) × (count ≡ length (lineList line))
     entries-read = list-read line list event count room (sym e ∙ m)
 
     pub count-within : count ≤ length read
-    count-within = omega (arith, entries-read .1, list-le line, ap length told, printed-length list 0 (lineList line))
+    count-within = omega (arith, entries-read .1, ap length told, printed-length list 0 (lineList line))
 
     -- a line is carried out with the entries that were read
     pub line-said :

@@ -1,6 +1,8 @@
 // One line of an event sheet, given to a state by value.
 ghost use mathlib.Core.Path.{_≡_};
 ghost use lib.ListN.{length};
+ghost use Prim.Native.Nat.{_≤_};
+ghost use Rattle.event_lines.specs.EventLines.{lineList};
 ghost use Rattle.refusals.specs.Refusals.{refusedForm};
 ghost use Rattle.debray_allocator.specs.DebrayAllocator.{refusedWith};
 ghost use Rattle.event_sheets.specs.EventSheets.{lineAnswer};
@@ -18,10 +20,12 @@ use code_deque::CodeDeque;
 use debray_allocator::Answer;
 use debray_allocator::At;
 use debray_allocator::State;
-use event_lines::Entries;
 use event_lines::Line;
 use sizes::SHEET_BYTES;
 use split::LINE_FEED;
+
+// A line of at most so many bytes is short.
+const SHORT_LINE: usize = 1_024;
 
 // The state after a call, and what the call is answered with.
 pub struct Called {
@@ -41,16 +45,28 @@ fn malformed(state: State) -> Answer
     }
 }
 
-// Reads a line and carries it out.
-fn step_line(state: State, line: &[u8]) -> Answer
+// Reads a line and carries it out, with a list that has room for its entries.
+fn step_read(state: State, line: &[u8], list: &mut [u32]) -> Answer
+    requires { ⌜ length (lineList (now line)) ≤ length (now list) ⌝ }
     ensures { λ r. ⌜ r ≡ lineAnswer state (now (line .entry)) ⌝ }
 {
-    let mut list: Entries = [0; SHEET_BYTES];
-    let said = event_lines::read_line(line, &mut list);
+    let said = event_lines::read_line(line, list);
     match said {
         Line::Malformed => malformed(state),
         Line::Says(event, count) => debray_allocator::step(state, event, &list[0..count]),
     }
+}
+
+// Reads a line and carries it out. A short line is given a short list, since clearing a long one takes longer than the line.
+fn step_line(state: State, line: &[u8]) -> Answer
+    ensures { λ r. ⌜ r ≡ lineAnswer state (now (line .entry)) ⌝ }
+{
+    if line.len() <= SHORT_LINE {
+        let mut list = [0; SHORT_LINE];
+        return step_read(state, line, &mut list[..]);
+    }
+    let mut list = [0; SHEET_BYTES];
+    step_read(state, line, &mut list[..])
 }
 
 // A line is bytes with one line feed, which stands behind all others.

@@ -4,7 +4,7 @@ use mathlib.Core.List.{List, [], _∷_}
 use lib.Dec.{eqb}
 use Rattle.notation.specs.Choice.{if_then_else_}
 use Rattle.notation.specs.Text.{bytes}
-use Rattle.words.specs.Words.{same}
+use Rattle.words.specs.Words.{codeAmong}
 use Rattle.events.specs.declared.Event.{Event}
 use Rattle.events.specs.declared.Event.the-variants.{Perm, Sets, Args, Cut, Incr, Free, Safe, Give, Tail, Next, Arm, Take, Reset, Contents, ClearFree}
 
@@ -44,11 +44,6 @@ lineWords =
     ∷ bytes "contents"
     ∷ bytes "clearfree"
     ∷ numberWords
-
--- the number of a word among words that are numbered from `first` on; 0 where it is none of them
-unfoldable pub codeAmong : ℕ → List (List ℕ) → List ℕ → ℕ
-codeAmong first [] word = 0
-codeAmong first (known ∷ others) word = if same word known then first else codeAmong (suc first) others word
 
 unfoldable pub wordCode : List ℕ → ℕ
 wordCode word = codeAmong 1 lineWords word

@@ -292,9 +292,19 @@ unfolding fieldsList
 fields-le [] = zero-le
 fields-le (word ∷ fields) = entries-le word (wordCode word) fields
 
-pub list-le : (line : List ℕ) → length (lineList line) ≤ sheetBytes
+-- a line has no more entries than bytes
+pub list-le : (line : List ℕ) → length (lineList line) ≤ length line
 unfolding lineList
 list-le line =
+    elim (ltb sheetBytes (length line)) as (λ t. length (if t then [] else fieldsList (split tab line)) ≤ length line) [
+      | true ↦ zero-le
+      | false ↦ omega (arith, fields-le (split tab line), ap length (joined-split tab line))
+    ]
+
+-- nor more than a sheet
+pub list-within : (line : List ℕ) → length (lineList line) ≤ sheetBytes
+unfolding lineList
+list-within line =
     elim (ltb sheetBytes (length line)) as
     (λ t. ltb sheetBytes (length line) ≡ t → length (if t then [] else fieldsList (split tab line)) ≤ sheetBytes) [
       | true ↦ λ e. zero-le
@@ -312,11 +322,11 @@ put-taken list text h =
 
 -- where a line says something, as many cells as it counts are its entries
 pub list-read :
-    (line list : List ℕ) (event : Event) (n : ℕ) → length list ≡ sheetBytes → lineSays line ≡ Says event n
+    (line list : List ℕ) (event : Event) (n : ℕ) → length (lineList line) ≤ length list → lineSays line ≡ Says event n
     → (take n (printed list 0 (lineList line)) ≡ lineList line) × (n ≡ length (lineList line))
 list-read line list event n room said =
     let count = line-counts line event n said in (
       ap (λ (k : ℕ). take k (printed list 0 (lineList line))) count
-          ∙ put-taken list (lineList line) (omega (arith, list-le line)),
+          ∙ put-taken list (lineList line) room,
       count,
     )

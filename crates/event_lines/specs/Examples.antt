@@ -4,7 +4,7 @@ use mathlib.Core.Path.{_≡_, refl}
 use mathlib.Core.List.{List, [], _∷_, map}
 use Rattle.notation.specs.Text.{bytes}
 use Rattle.split.specs.Split.{before, after, split, inFront}
-use Rattle.words.specs.Words.{same}
+use Rattle.words.specs.Words.{same, codeAmong}
 use Rattle.numbers.specs.Numbers.{numberOf, isNumber, allDigits, isDigit, valueFrom, needlessZero}
 use Rattle.forms.specs.declared.GenContext.the-variants.{Head as InHead, Mid, Last}
 use Rattle.forms.specs.declared.Level.the-variants.{Root, Shallow, Deep}
@@ -15,7 +15,7 @@ use Rattle.events.specs.Events.{noVariable}
 use Rattle.event_fields.specs.EventFields.{targetOf, levelOf, contextOf, useIn, useOf, noUse, noSuchVariable, variableEntry, argumentOf}
 use Rattle.event_lines.specs.declared.Line.{Line}
 use Rattle.event_lines.specs.declared.Line.the-variants.{Malformed, Says}
-use Rattle.event_lines.specs.Codes.{codeAmong, wordCode, bareEvent, oneEvent, twoEvent}
+use Rattle.event_lines.specs.Codes.{wordCode, bareEvent, oneEvent, twoEvent}
 use Rattle.event_lines.specs.EventLines.{oneNumber, twoNumbers, threeNumbers, bareLine, anonLine, markOf, markLine, allEntries, counted, leading, usesCount, usesList, tempLine, tempList, closeLine, closeList, listLine, listEntries, plainLine, saidBy, entriesBy, fieldsSay, fieldsList, lineSays, lineList}
 
 -- each word, in document 01's order

@@ -1,6 +1,6 @@
 -- Laws of reading, a field at a time. Where no field is left, the next one is taken to be empty, and says nothing either.
 use Prim.Native.Nat.{ℕ, _+_, _-_, _≤_, _<_}
-use mathlib.Core.Path.{_≡_, refl, sym, _∙_}
+use mathlib.Core.Path.{_≡_, refl, sym, ap, _∙_}
 use mathlib.Core.Bool.{true, false}
 use mathlib.Core.List.{List, [], _∷_}
 use native.Mathlib.Omega.{arith}
@@ -254,8 +254,8 @@ put-none list at =
     ]
     refl
 
-pub put-more : (list : List ℕ) (at n : ℕ) (ns : List ℕ) → printed (set list at n) (at + 1) ns ≡ printed list at (n ∷ ns)
-put-more list at n ns =
+put-next : (list : List ℕ) (at n : ℕ) (ns : List ℕ) → printed (set list at n) (at + 1) ns ≡ printed list at (n ∷ ns)
+put-next list at n ns =
     elim (ltb at (length list)) as (λ t. ltb at (length list) ≡ t → printed (set list at n) (at + 1) ns ≡ printed list at (n ∷ ns)) [
       | true ↦ λ e. put-then (put-one list at n (ltb-true at (length list) e)) (record { place = refl; bytes = refl }) .bytes
       | false ↦ λ e. (let h = ltb-false at (length list) e in
@@ -263,6 +263,10 @@ put-more list at n ns =
           (sym (put-past list (at + 1) ns (omega arith) (omega arith) .bytes) ∙ put-past list at (n ∷ ns) (omega arith) h .bytes))
     ]
     refl
+
+pub put-more :
+    (list : List ℕ) (at n : ℕ) (ns : List ℕ) {after : List ℕ} → after ≡ set list at n → printed after (at + 1) ns ≡ printed list at (n ∷ ns)
+put-more list at n ns put = ap (λ l. printed l (at + 1) ns) put ∙ put-next list at n ns
 
 -- ---- A line
 

@@ -1,14 +1,12 @@
 // A line of an event sheet, read into an event. Only the form is judged here; order, sizes and the lengths of lists are
 // judged with the event (`events::refusal_before`).
-ghost use Prim.Native.Nat.{_≤_};
 ghost use mathlib.Core.Path.{_≡_};
-ghost use lib.ListN.{length};
-ghost use Rattle.sizes.specs.Sizes.{sheetBytes};
+ghost use lib.ListN.{set};
 ghost use Rattle.split.specs.Split.{tab};
+ghost use Rattle.words.specs.Words.{codeAmong};
 ghost use Rattle.fields.specs.Fields.{fieldsLeft};
 ghost use Rattle.printing.specs.Printing.{printed};
 ghost use Rattle.event_lines.specs.Codes.{
-  codeAmong,
   wordCode,
   numberWords,
   otherWords,
@@ -63,9 +61,6 @@ use targets::Target;
 
 // The mark between two uses.
 const COMMA: u8 = b',';
-
-// Room for the entries of a line's list: no line of a sheet can have more.
-pub type Entries = [u32; SHEET_BYTES];
 
 // What a line says, and how many entries its list has.
 pub enum Line {
@@ -408,9 +403,17 @@ fn mark_line(code: u32, rest: &[u8]) -> Line
 
 // ---- Lines with a list
 
+// Puts an entry into its cell, where there is one.
+fn put_entry(list: &mut [u32], at: usize, n: u32)
+    ensures { λ _. ⌜ now (list .exit) ≡ set (now (list .entry)) at n ⌝ }
+{
+    if at < list.len() {
+        list[at] = n;
+    }
+}
+
 // Reads what is left of a line as the entries of a list, up to the first that has no form.
-fn read_list(entries: events::Entries, rest: &[u8], mark: u8, list: &mut Entries) -> Counted
-    requires { ⌜ length (now rest) ≤ sheetBytes ⌝ }
+fn read_list(entries: events::Entries, rest: &[u8], mark: u8, list: &mut [u32]) -> Counted
     ensures { λ r. ⌜ r ≡ counted entries (fieldsLeft mark (now (rest .entry))) ⌝ }
     ensures { λ _. ⌜ now (list .exit) ≡ printed (now (list .entry)) 0 (leading entries (fieldsLeft mark (now (rest .entry)))) ⌝ }
 {
@@ -423,7 +426,7 @@ fn read_list(entries: events::Entries, rest: &[u8], mark: u8, list: &mut Entries
         let Number::Of(n) = entry else {
             return Counted::Malformed;
         };
-        list[count] = n;
+        put_entry(list, count, n);
         count += 1;
         let behind = fields::rest_after(left, end);
         left = behind;
@@ -432,8 +435,7 @@ fn read_list(entries: events::Entries, rest: &[u8], mark: u8, list: &mut Entries
 }
 
 // Reads the one field that is left as `-` or as uses.
-fn read_uses(rest: &[u8], list: &mut Entries) -> Counted
-    requires { ⌜ length (now rest) ≤ sheetBytes ⌝ }
+fn read_uses(rest: &[u8], list: &mut [u32]) -> Counted
     ensures { λ r. ⌜ r ≡ usesCount (fieldsLeft tab (now (rest .entry))) ⌝ }
     ensures { λ _. ⌜ now (list .exit) ≡ printed (now (list .entry)) 0 (usesList (fieldsLeft tab (now (rest .entry)))) ⌝ }
 {
@@ -465,8 +467,7 @@ fn recorded(occurrences: Number, context: ContextField, uses: Counted) -> Line
 }
 
 // The line of `temp`: context, occurrences and uses.
-fn temp_line(rest: &[u8], list: &mut Entries) -> Line
-    requires { ⌜ length (now rest) ≤ sheetBytes ⌝ }
+fn temp_line(rest: &[u8], list: &mut [u32]) -> Line
     ensures { λ r. ⌜ r ≡ tempLine (fieldsLeft tab (now (rest .entry))) ⌝ }
     ensures { λ _. ⌜ now (list .exit) ≡ printed (now (list .entry)) 0 (tempList (fieldsLeft tab (now (rest .entry)))) ⌝ }
 {
@@ -506,8 +507,7 @@ fn closed(depth: Number, variables: Counted) -> Line
 }
 
 // The line of `close`: a depth and variables.
-fn close_line(rest: &[u8], list: &mut Entries) -> Line
-    requires { ⌜ length (now rest) ≤ sheetBytes ⌝ }
+fn close_line(rest: &[u8], list: &mut [u32]) -> Line
     ensures { λ r. ⌜ r ≡ closeLine (fieldsLeft tab (now (rest .entry))) ⌝ }
     ensures { λ _. ⌜ now (list .exit) ≡ printed (now (list .entry)) 0 (closeList (fieldsLeft tab (now (rest .entry)))) ⌝ }
 {
@@ -520,8 +520,7 @@ fn close_line(rest: &[u8], list: &mut Entries) -> Line
 }
 
 // The line of a word with a list.
-fn list_line(code: u32, rest: &[u8], list: &mut Entries) -> Line
-    requires { ⌜ length (now rest) ≤ sheetBytes ⌝ }
+fn list_line(code: u32, rest: &[u8], list: &mut [u32]) -> Line
     ensures { λ r. ⌜ r ≡ listLine code (fieldsLeft tab (now (rest .entry))) ⌝ }
     ensures { λ _. ⌜ now (list .exit) ≡ printed (now (list .entry)) 0 (listEntries code (fieldsLeft tab (now (rest .entry)))) ⌝ }
 {
@@ -538,8 +537,7 @@ fn list_line(code: u32, rest: &[u8], list: &mut Entries) -> Line
 // ---- All lines
 
 // What the word's number and what is left behind the word say.
-fn line_of(code: u32, rest: &[u8], list: &mut Entries) -> Line
-    requires { ⌜ length (now rest) ≤ sheetBytes ⌝ }
+fn line_of(code: u32, rest: &[u8], list: &mut [u32]) -> Line
     ensures { λ r. ⌜ r ≡ saidBy code (fieldsLeft tab (now (rest .entry))) ⌝ }
     ensures { λ _. ⌜ now (list .exit) ≡ printed (now (list .entry)) 0 (entriesBy code (fieldsLeft tab (now (rest .entry)))) ⌝ }
 {
@@ -554,8 +552,8 @@ fn line_of(code: u32, rest: &[u8], list: &mut Entries) -> Line
     }
 }
 
-// What a line says. The entries of its list are put into `list`, from the first cell on.
-pub fn read_line(line: &[u8], list: &mut Entries) -> Line
+// What a line says. The entries of its list are put into `list`, from the first cell on, as far as there are cells.
+pub fn read_line(line: &[u8], list: &mut [u32]) -> Line
     ensures { λ r. ⌜ r ≡ lineSays (now (line .entry)) ⌝ }
     ensures { λ _. ⌜ now (list .exit) ≡ printed (now (list .entry)) 0 (lineList (now (line .entry))) ⌝ }
 {

@@ -9,7 +9,6 @@ use lib.ListN.{length, take, drop, length-append, take-append-drop}
 use lib.Seq.{take-all}
 use borrow.Author.Tests.{lt-ltb, le-ltb}
 use Rattle.refusals.specs.Refusals.{accepted, refusedForm}
-use Rattle.sizes.specs.Sizes.{sheetBytes}
 use Rattle.split.specs.Split.{lineFeed, before, after, split}
 use Rattle.split.specs.SplitLaws.{split-more, split-some, split-last, take-before, drop-before, after-length}
 use Rattle.printing.specs.Printing.{printed, placeAfter, Put}
@@ -19,7 +18,7 @@ use Rattle.events.specs.declared.Event.{Event}
 use Rattle.event_lines.specs.declared.Line.{Line}
 use Rattle.event_lines.specs.declared.Line.the-variants.{Malformed, Says}
 use Rattle.event_lines.specs.EventLines.{lineSays, lineList}
-use Rattle.event_lines.specs.EventLinesLaws.{list-read}
+use Rattle.event_lines.specs.EventLinesLaws.{list-le, list-read}
 use Rattle.debray_allocator.specs.declared.State.{State}
 use Rattle.debray_allocator.specs.declared.Acted.{Acted}
 use Rattle.debray_allocator.specs.declared.Answer.{Answer}
@@ -53,13 +52,13 @@ module _ (s : State) (line : List ℕ) where
       → said ≡ Says event count
       → read ≡ printed list 0 (lineList line)
       → entries ≡ take count read
-      → length read ≡ sheetBytes
+      → length line ≤ length list
       → b ≡ acted s event entries
       → b ≡ lineActed s line
   unfolding lineActed
   line-said list {event = event} {count = count} e m read taken room made =
-      let all : length list ≡ sheetBytes = sym (printed-length list 0 (lineList line)) ∙ ap length (sym read) ∙ room in
-      let entries = taken ∙ ap (take count) read ∙ list-read line list event count all (sym e ∙ m) .0 in
+      let cells : length (lineList line) ≤ length list = omega (arith, list-le line) in
+      let entries = taken ∙ ap (take count) read ∙ list-read line list event count cells (sym e ∙ m) .0 in
       made ∙ ap (acted s event) entries ∙ sym (ap (λ l. saidActed s l (lineList line)) (sym e ∙ m))
 
 -- what is refused and what is answered is what the line comes to

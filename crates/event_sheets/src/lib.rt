@@ -27,7 +27,6 @@ use code_deque::CodeDeque;
 use debray_allocator::Acted;
 use debray_allocator::At;
 use evacuation::RegisterSets;
-use event_lines::Entries;
 use event_lines::Line;
 use perm_free_list::PermFreeList;
 use shallow_temp_mappings::Mappings;
@@ -36,6 +35,11 @@ use split::LINE_FEED;
 use temp_var_data::UseCounts;
 use temp_var_data::UseSets;
 use variable_records::Records;
+
+// A sheet of at most so many bytes is short, and so many bytes of answer are kept aside for it.
+const SHORT_SHEET: usize = 2_048;
+
+const SHORT_TEXT: usize = 8_192;
 
 // A run over the lines of a sheet: where it was refused and why, and the length of its text, which is told also where the
 // room has ended.
@@ -58,18 +62,16 @@ fn malformed(counters: Counters) -> Acted
 }
 
 // The entries of a list of which so many were read.
-fn entries_of(list: &Entries, count: usize) -> &[u32]
+fn entries_of(list: &[u32], count: usize) -> &[u32]
     ensures { λ r. ⌜ now r ≡ take count (now (list .entry)) ⌝ }
-    ensures { λ _. ⌜ length (now (list .entry)) ≡ sheetBytes ⌝ }
 {
-    let all = &list[..];
-    if count <= all.len() {
-        return &all[0..count];
+    if count <= list.len() {
+        return &list[0..count];
     }
-    all
+    list
 }
 
-// Reads a line and carries it out.
+// Reads a line and carries it out. A line has no more entries than bytes, so that a list as long as the line has room.
 fn carry_line(
     counters: Counters,
     records: &mut Records,
@@ -82,9 +84,10 @@ fn carry_line(
     freed_slots: &mut PermFreeList,
     branch_rows: &mut BranchRows,
     branch_sets: &mut BranchSets,
-    list: &mut Entries,
+    list: &mut [u32],
     line: &[u8],
 ) -> Acted
+    requires { ⌜ length (now line) ≤ length (now list) ⌝ }
     ensures { λ r. ⌜ answerOf (now (records .exit)) (now («use_sets» .exit)) (now («use_counts» .exit)) (now («no_use» .exit)) (now (conflict .exit)) (now (mappings .exit)) (now («freed_registers» .exit)) (now («freed_slots» .exit)) (now («branch_rows» .exit)) (now («branch_sets» .exit)) r ≡ lineActed (stateOf counters (now (records .entry)) (now («use_sets» .entry)) (now («use_counts» .entry)) (now («no_use» .entry)) (now (conflict .entry)) (now (mappings .entry)) (now («freed_registers» .entry)) (now («freed_slots» .entry)) (now («branch_rows» .entry)) (now («branch_sets» .entry))) (now (line .entry)) ⌝ }
 {
     let said = event_lines::read_line(line, list);
@@ -160,8 +163,9 @@ fn finish(
 }
 
 // Runs over the lines of a sheet, the first bad one deciding. Their text is put as far as there is room.
-fn run_lines(sheet: &[u8], out: &mut [u8]) -> Run
+fn run_lines(sheet: &[u8], list: &mut [u32], out: &mut [u8]) -> Run
     requires { ⌜ length (now sheet) ≤ sheetBytes ⌝ }
+    requires { ⌜ length (now sheet) ≤ length (now list) ⌝ }
     ensures { λ r. ⌜ r ≡ told (sheetRan (now (sheet .entry))) ⌝ }
     ensures { λ _. ⌜ now (out .exit) ≡ printed (now (out .entry)) 0 (sheetRan (now (sheet .entry)) .text) ⌝ }
 {
@@ -177,7 +181,6 @@ fn run_lines(sheet: &[u8], out: &mut [u8]) -> Run
     let mut freed_slots = fresh.freed_slots;
     let mut branch_rows = fresh.branch_rows;
     let mut branch_sets = fresh.branch_sets;
-    let mut list: Entries = [0; SHEET_BYTES];
     let mut scratch = [0; LONGEST];
     let mut number = 1;
     let mut length = 0;
@@ -197,7 +200,7 @@ fn run_lines(sheet: &[u8], out: &mut [u8]) -> Run
             &mut freed_slots,
             &mut branch_rows,
             &mut branch_sets,
-            &mut list,
+            list,
             split::part_before(rest, end),
         );
         if 0 < acted.refusal {
@@ -221,8 +224,31 @@ fn run_lines(sheet: &[u8], out: &mut [u8]) -> Run
     finish(counters, out, at, length, number, rest)
 }
 
-// The answer to an event sheet: its length is tested first, then its lines, and the room last. The first run is made
-// aside, so that a refusal leaves the lent bytes as they were; an answer too long to be kept there is made again in them.
+// The answer to a sheet that is not too long. The first run is made aside, so that a refusal leaves the lent bytes as they
+// were; an answer too long to be kept there is made again in them.
+fn answer_aside(sheet: &[u8], list: &mut [u32], text: &mut [u8], out: &mut [u8]) -> Answered
+    requires { ⌜ length (now sheet) ≤ sheetBytes ⌝ }
+    requires { ⌜ length (now sheet) ≤ length (now list) ⌝ }
+    ensures { λ r. ⌜ r ≡ answered (now (sheet .entry)) (length (now (out .entry))) ⌝ }
+    ensures { λ _. ⌜ now (out .exit) ≡ filled (now (sheet .entry)) (now (out .entry)) ⌝ }
+{
+    let run = run_lines(sheet, list, text);
+    if 0 < run.refusal {
+        return Answered::Refused(run.line, run.refusal);
+    }
+    if out.len() < run.length {
+        return Answered::Refused(0, refusals::ROOM);
+    }
+    if run.length <= text.len() {
+        printing::put_word(out, 0, split::part_before(text, run.length));
+        return Answered::Written(run.length);
+    }
+    run_lines(sheet, list, out);
+    Answered::Written(run.length)
+}
+
+// The answer to an event sheet: its length is tested first, then its lines, and the room last. A short sheet is given a short
+// list and a short text, since clearing them takes longer than answering it.
 pub fn answer(sheet: &[u8], out: &mut [u8]) -> Answered
     ensures { λ r. ⌜ r ≡ answered (now (sheet .entry)) (length (now (out .entry))) ⌝ }
     ensures { λ _. ⌜ now (out .exit) ≡ filled (now (sheet .entry)) (now (out .entry)) ⌝ }
@@ -230,18 +256,12 @@ pub fn answer(sheet: &[u8], out: &mut [u8]) -> Answered
     if SHEET_BYTES < sheet.len() {
         return Answered::Refused(0, refusals::FULL);
     }
+    if sheet.len() <= SHORT_SHEET {
+        let mut list = [0; SHORT_SHEET];
+        let mut text = [0; SHORT_TEXT];
+        return answer_aside(sheet, &mut list[..], &mut text[..], out);
+    }
+    let mut list = [0; SHEET_BYTES];
     let mut text = [0; SHEET_BYTES];
-    let run = run_lines(sheet, &mut text[..]);
-    if 0 < run.refusal {
-        return Answered::Refused(run.line, run.refusal);
-    }
-    if out.len() < run.length {
-        return Answered::Refused(0, refusals::ROOM);
-    }
-    if run.length <= SHEET_BYTES {
-        printing::put_word(out, 0, split::part_before(&text[..], run.length));
-        return Answered::Written(run.length);
-    }
-    run_lines(sheet, out);
-    Answered::Written(run.length)
+    answer_aside(sheet, &mut list[..], &mut text[..], out)
 }

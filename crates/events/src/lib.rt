@@ -1,7 +1,6 @@
 // What a line of an event sheet says, and what refuses it before it is carried out: order, sizes, and lists and counters
 // that are full.
 ghost use mathlib.Core.Path.{_≡_};
-ghost use mathlib.Core.Bool.{_&&_};
 ghost use Rattle.events.specs.Events.{
   isContext,
   isUse,
@@ -63,16 +62,6 @@ pub enum Entries {
     Variables,
 }
 
-// Whether two things hold.
-fn both(first: bool, second: bool) -> bool
-    ensures { λ r. ⌜ r ≡ (first && second) ⌝ }
-{
-    if first {
-        return second;
-    }
-    false
-}
-
 // Whether a number stands for the head, or for a context of a chunk that there is.
 fn is_context(context: u32) -> bool
     ensures { λ r. ⌜ r ≡ isContext context ⌝ }
@@ -82,16 +71,16 @@ fn is_context(context: u32) -> bool
     if context == 0 {
         return true;
     }
-    both(first <= context, context <= last)
+    sizes::both(first <= context, context <= last)
 }
 
 // Whether a number stands for a use of a register that there is, in a chunk that there is.
-fn is_use(code: u32) -> bool
+pub fn is_use(code: u32) -> bool
     ensures { λ r. ⌜ r ≡ isUse code ⌝ }
 {
     let register = temp_var_data::register_of(code);
     let context = temp_var_data::context_of(code);
-    both(sizes::is_register(register), is_context(context))
+    sizes::both(sizes::is_register(register), is_context(context))
 }
 
 // Whether an entry of a list is inside its size, or names one of so many variables.
@@ -134,20 +123,23 @@ fn is_in_size(records: u32, event: Event, list: &[u32]) -> bool
     match event {
         Event::Temp(context, occurrences) => {
             let uses_fit = all_fit(Entries::Uses, records, list);
-            both(
+            sizes::both(
                 context_fits(context),
-                both(sizes::is_count(occurrences), uses_fit),
+                sizes::both(sizes::is_count(occurrences), uses_fit),
             )
         }
         Event::Perm(occurrences) => sizes::is_count(occurrences),
         Event::Head => all_fit(Entries::Arguments, records, list),
         Event::Args(count) => sizes::is_argument(count),
-        Event::Var(_, _, context, v) => both(context_fits(context), v < records),
+        Event::Var(_, _, context, v) => sizes::both(context_fits(context), v < records),
         Event::Anon(_, _, context) => context_fits(context),
-        Event::NonVar(_, context, cell) => both(context_fits(context), sizes::is_argument(cell)),
-        Event::Cut(v, chunk) => both(v < records, sizes::is_chunk(chunk)),
+        Event::NonVar(_, context, cell) => sizes::both(
+            context_fits(context),
+            sizes::is_argument(cell),
+        ),
+        Event::Cut(v, chunk) => sizes::both(v < records, sizes::is_chunk(chunk)),
         Event::Incr(v) => v < records,
-        Event::Free(chunk, v) => both(sizes::is_chunk(chunk), v < records),
+        Event::Free(chunk, v) => sizes::both(sizes::is_chunk(chunk), v < records),
         Event::Safe(v) => v < records,
         Event::Give(r) => sizes::is_register(r),
         Event::Tail(tail) => tail <= 1,
@@ -196,9 +188,9 @@ fn is_full(counters: Counters, event: Event, entries: usize) -> bool
         Event::Perm(_) => VARIABLES as u32 <= counters.records,
         Event::Head => (LAST_REGISTER as usize) < entries,
         Event::Close(_) => VARIABLES < entries,
-        Event::Var(_, level, _, _) => both(takes_argument(level), last),
-        Event::Anon(_, level, _) => both(takes_argument(level), last),
-        Event::NonVar(level, _, _) => both(is_shallow(level), last),
+        Event::Var(_, level, _, _) => sizes::both(takes_argument(level), last),
+        Event::Anon(_, level, _) => sizes::both(takes_argument(level), last),
+        Event::NonVar(level, _, _) => sizes::both(is_shallow(level), last),
         Event::Next => last,
         Event::Sets => false,
         Event::Args(_) => false,
@@ -264,7 +256,7 @@ fn refusal_by_size(counters: Counters, event: Event, list: &[u32]) -> u32
 pub fn refusal_before(counters: Counters, event: Event, list: &[u32]) -> u32
     ensures { λ r. ⌜ r ≡ refusalBefore counters event (now (list .entry)) ⌝ }
 {
-    if both(is_record(event), 0 < counters.events_seen) {
+    if sizes::both(is_record(event), 0 < counters.events_seen) {
         return refusals::ORDER;
     }
     refusal_by_size(counters, event, list)

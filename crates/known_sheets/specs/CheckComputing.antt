@@ -5,14 +5,14 @@ use mathlib.Core.List.{List}
 use Rattle.notation.specs.Lists.{numbersFrom}
 use Rattle.bit_set.specs.BitSet.{has, inserted}
 use Rattle.split.specs.Split.{split, inFront}
-use Rattle.words.specs.Words.{same}
+use Rattle.words.specs.Words.{same, codeAmong}
 use Rattle.numbers.specs.Numbers.{isDigit, allDigits, valueFrom, needlessZero, isNumber, numberOf}
 use Rattle.steps.specs.declared.CheckLine.{CheckLine}
 use Rattle.steps.specs.declared.Order.{Order}
 use Rattle.steps.specs.declared.Judged.{Judged}
 use Rattle.steps.specs.Steps.{isPutOrSet, isGetValueOrUnify, takesNumber, headTooLate, misplaced, instructionOutOfOrder, refusalOf, judgedAs, judged, refusalAtEnd}
 use Rattle.check_lines.specs.declared.Line.{Line}
-use Rattle.check_lines.specs.Codes.{codeAmong, wordCode, deepStep, argumentStep, argumentInstruction, placeInstruction}
+use Rattle.check_lines.specs.Codes.{wordCode, deepStep, argumentStep, argumentInstruction, placeInstruction}
 use Rattle.check_lines.specs.CheckLines.{placeOf, argumentOf, callLine, oneField, withOneField, twoFields, withTwoFields, saidBy, fieldsSay, lineSays}
 use Rattle.classes.specs.Classes.{pairsOf, bothNames, labelOf, exchanged, joined, labelsAfter, ownLabels, labelling, allSame}
 use Rattle.symbolic.specs.Symbolic.{pushed, listed, valueOf, again, claimed, carriedAll}

@@ -5,7 +5,7 @@ use Rattle.notation.specs.Lists.{numbersFrom}
 use Rattle.bit_set.specs.BitSet.{has, inserted, union, removed}
 use Rattle.bit_set.specs.Collected.{collectedBelow, collected}
 use Rattle.split.specs.Split.{before, after, split, inFront, joined}
-use Rattle.words.specs.Words.{same}
+use Rattle.words.specs.Words.{same, codeAmong}
 use Rattle.numbers.specs.Numbers.{isDigit, allDigits, valueFrom, needlessZero, isNumber, numberOf, decimal, written}
 use Rattle.registers.specs.Registers.{registerText}
 use Rattle.instructions.specs.Instructions.{line as textLine, instructionText, atText}
@@ -36,7 +36,7 @@ use Rattle.debray_allocator.specs.declared.State.{State}
 use Rattle.debray_allocator.specs.declared.Answer.{Answer}
 use Rattle.debray_allocator.specs.DebrayAllocator.{seenAfter, refusedWith, acted, unlessRefused, stepped}
 use Rattle.event_fields.specs.EventFields.{targetOf, levelOf, contextOf as contextField, useIn, useOf, variableEntry, argumentOf}
-use Rattle.event_lines.specs.Codes.{codeAmong, wordCode, bareEvent, oneEvent, twoEvent}
+use Rattle.event_lines.specs.Codes.{wordCode, bareEvent, oneEvent, twoEvent}
 use Rattle.event_lines.specs.EventLines.{oneNumber, twoNumbers, threeNumbers, bareLine, markOf, markLine, allEntries, counted, leading, usesCount, usesList, tempLine, tempList, closeLine, closeList, listLine, listEntries, plainLine, saidBy, entriesBy, fieldsSay, fieldsList, lineSays, lineList}
 use Rattle.answers.specs.Answers.{answerText, endText}
 use Rattle.code_deque.specs.declared.CodeDeque.{CodeDeque}

@@ -1,4 +1,4 @@
--- Laws of a list of numbers that is a table, rows of cells: what stands in a row after numbers were put into one.
+-- Laws of lists of numbers: rising ones, and tables, rows of cells, with what stands in a row after numbers were put into one.
 use Prim.Native.Nat.{ℕ, zero, suc, _+_, _*_, _/_, _≤_, _<_}
 use mathlib.Core.Path.{_≡_, refl, sym, ap, _∙_}
 use mathlib.Core.Logic.{_≢_}
@@ -7,6 +7,18 @@ use native.Mathlib.Nat.{add-zero, div-eq-of-lt, mul-add-div-right}
 use native.Mathlib.Omega.{arith}
 use lib.ListN.{length, getD, set, length-set}
 use lib.Seq.{getD-set-same, getD-set-other}
+use Rattle.notation.specs.Lists.{numbersFrom}
+
+pub length-numbers : (first n : ℕ) → length (numbersFrom first n) ≡ n
+unfolding numbersFrom
+length-numbers first zero = refl
+length-numbers first (suc n) = ap suc (length-numbers (suc first) n)
+
+pub getD-numbers : (first n i d : ℕ) → i < n → getD (numbersFrom first n) i d ≡ first + i
+unfolding numbersFrom
+getD-numbers first zero i d h = absurd (omega arith)
+getD-numbers first (suc n) zero d h = sym (add-zero first)
+getD-numbers first (suc n) (suc i) d h = getD-numbers (suc first) n i d (omega arith) ∙ omega arith
 
 -- cell k of the row at a start; the first is written without its number
 abbrev pub cell : ℕ → ℕ → ℕ

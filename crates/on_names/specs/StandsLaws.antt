@@ -3,13 +3,13 @@ use Prim.Native.Nat.{ℕ, zero, suc, _+_, _*_, _≤_, _<_}
 use mathlib.Core.Path.{_≡_, refl, sym, ap, subst, _∙_}
 use mathlib.Core.Bool.{true}
 use mathlib.Core.List.{List, [], _∷_, map}
-use native.Mathlib.Nat.{add-zero}
 use native.Mathlib.Omega.{arith}
 use lib.Dec.{eqb}
 use lib.ListN.{length, getD, length-replicate, getD-replicate}
 use borrow.Author.Tests.{eqb-true}
 use Rattle.notation.specs.ChoiceLaws.{both-true}
 use Rattle.notation.specs.Lists.{numbersFrom}
+use Rattle.notation.specs.ListLaws.{length-numbers, getD-numbers}
 use Rattle.refusals.specs.Refusals.{accepted}
 use Rattle.sizes.specs.Sizes.{variables, steps, instructions}
 use Rattle.sizes.specs.SizesLaws.{register-exactly}
@@ -212,17 +212,6 @@ lines-stand ρ order s m w (line ∷ lines) e h =
     lines-stand ρ (judged order line .order) _ _ _ lines (b .1) (line-stands ρ order s m w line good h)
 
 -- ---- Before the first line
-
-length-numbers : (start n : ℕ) → length (numbersFrom start n) ≡ n
-unfolding numbersFrom
-length-numbers start zero = refl
-length-numbers start (suc n) = ap suc (length-numbers (suc start) n)
-
-getD-numbers : (start n i d : ℕ) → i < n → getD (numbersFrom start n) i d ≡ start + i
-unfolding numbersFrom
-getD-numbers start zero i d h = absurd (omega arith)
-getD-numbers start (suc n) zero d h = sym (add-zero start)
-getD-numbers start (suc n) (suc i) d h = getD-numbers (suc start) n i d (omega arith) ∙ omega arith
 
 -- every place holds its own name
 held-fresh : (place : RegType) → placeName place < placeCells → getD (numbersFrom 0 placeCells) (placeName place) 0 ≡ placeName place

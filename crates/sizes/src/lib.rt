@@ -1,5 +1,6 @@
 // The sizes of sheets, tables and numbers, each named once, and the tests of a number against its size.
 ghost use mathlib.Core.Path.{_≡_};
+ghost use mathlib.Core.Bool.{_&&_};
 ghost use Rattle.sizes.specs.Sizes.{isRegister, isArgument, isChunk, isCount};
 
 // Variables of a clause, numbered from 0.
@@ -55,4 +56,14 @@ pub fn is_count(n: u32) -> bool
     ensures { λ r. ⌜ r ≡ isCount n ⌝ }
 {
     n <= LAST_COUNT
+}
+
+// Whether two tests hold.
+pub fn both(first: bool, second: bool) -> bool
+    ensures { λ r. ⌜ r ≡ (first && second) ⌝ }
+{
+    if first {
+        return second;
+    }
+    false
 }

@@ -1,7 +1,7 @@
 // A line of a check sheet, and what refuses it: the lines before it, its numbers, and what is full.
 ghost use Prim.Native.Nat.{_<_};
 ghost use mathlib.Core.Path.{_≡_};
-ghost use mathlib.Core.Bool.{false, _&&_, _||_};
+ghost use mathlib.Core.Bool.{false, _||_};
 ghost use Rattle.sizes.specs.Sizes.{steps as stepLines, instructions as stepInstructions};
 ghost use Rattle.steps.specs.Steps.{
   kindOf,
@@ -88,16 +88,6 @@ pub fn fresh_order() -> Order
     }
 }
 
-// Whether two things hold.
-fn both(first: bool, second: bool) -> bool
-    ensures { λ r. ⌜ r ≡ (first && second) ⌝ }
-{
-    if first {
-        return second;
-    }
-    false
-}
-
 // Whether one of two things holds.
 fn either(first: bool, second: bool) -> bool
     ensures { λ r. ⌜ r ≡ (first || second) ⌝ }
@@ -162,7 +152,7 @@ fn takes_number(number: u32) -> bool
 fn head_too_late(order: Order, step: Step) -> bool
     ensures { λ r. ⌜ r ≡ headTooLate order step ⌝ }
 {
-    both(kind_of(step) == HEAD_STEP, GOAL_STEP <= order.kind)
+    sizes::both(kind_of(step) == HEAD_STEP, GOAL_STEP <= order.kind)
 }
 
 // Whether a goal step has an argument that the goal has already.
@@ -202,7 +192,7 @@ fn is_instruction_out_of_order(order: Order, instruction: Instruction) -> bool
     if is_misplaced(order.kind, number) {
         return true;
     }
-    both(order.number_taken, takes_number(number))
+    sizes::both(order.number_taken, takes_number(number))
 }
 
 // Whether a line is out of order.
@@ -235,9 +225,9 @@ fn step_fits(step: Step) -> bool
     ensures { λ r. ⌜ r ≡ stepFits step ⌝ }
 {
     match step {
-        Step::Head(k, v) => both(sizes::is_register(k), v < VARIABLES as u32),
+        Step::Head(k, v) => sizes::both(sizes::is_register(k), v < VARIABLES as u32),
         Step::HeadDeep(v) => v < VARIABLES as u32,
-        Step::Goal(k, v) => both(sizes::is_register(k), v < VARIABLES as u32),
+        Step::Goal(k, v) => sizes::both(sizes::is_register(k), v < VARIABLES as u32),
         Step::GoalDeep(v) => v < VARIABLES as u32,
         Step::Call => true,
     }
@@ -251,7 +241,7 @@ fn instruction_fits(instruction: Instruction) -> bool
     let number = code.number;
     let place = code.place;
     match number {
-        0..=4 => both(place_fits(place), sizes::is_register(code.argument)),
+        0..=4 => sizes::both(place_fits(place), sizes::is_register(code.argument)),
         5.. => place_fits(place),
     }
 }

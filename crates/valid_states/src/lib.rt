@@ -7,9 +7,8 @@ ghost use Prim.Native.Nat.{_+_, _≤_, _<_};
 ghost use lib.Dec.{eqb, ltb};
 ghost use Rattle.sizes.specs.Sizes.{variables, registers, freedRegisters};
 ghost use Rattle.bit_set.specs.BitSet.{has};
-ghost use Rattle.variable_records.specs.Rows.{rowAt, isTemporary};
+ghost use Rattle.variable_records.specs.Rows.{isTemporary};
 ghost use Rattle.shallow_temp_mappings.specs.Mappings.{unmapped};
-ghost use Rattle.events.specs.Events.{isContext, isUse};
 ghost use Rattle.debray_allocator.specs.State.{stateOf};
 ghost use Rattle.valid_states.specs.Parts.{ofRecords, ofSets, ofMappings, ofBranches, ofFreedRegisters, ofFreedSlots};
 ghost use Rattle.valid_states.specs.ValidStates.{
@@ -44,7 +43,6 @@ use perm_free_list::PermFreeList;
 use shallow_temp_mappings::Mappings;
 use sizes::FREED_REGISTERS;
 use sizes::FREED_SLOTS;
-use sizes::LAST_CHUNK;
 use sizes::LAST_COUNTER;
 use sizes::LAST_REGISTER;
 use sizes::OPEN_BRANCHES;
@@ -54,23 +52,12 @@ use temp_var_data::UseCounts;
 use temp_var_data::UseSets;
 use variable_records::Records;
 use variable_records::Row;
-use variable_records::SafetyRow;
-
-// Whether two things hold.
-fn both(first: bool, second: bool) -> bool
-    ensures { λ r. ⌜ r ≡ (first && second) ⌝ }
-{
-    if first {
-        return second;
-    }
-    false
-}
 
 // Whether `temp_lb`, `perm_lb` or the argument counter can stand at a number.
 fn is_counter(n: u32) -> bool
     ensures { λ r. ⌜ r ≡ isCounter n ⌝ }
 {
-    both(1 <= n, n <= LAST_COUNTER)
+    sizes::both(1 <= n, n <= LAST_COUNTER)
 }
 
 // Whether every member of a set is a register's number: 0 is none.
@@ -84,20 +71,20 @@ fn is_register_set(set: BitSet) -> bool
 fn counters_fit(counters: Counters) -> bool
     ensures { λ r. ⌜ r ≡ countersFit counters ⌝ }
 {
-    let branches = both(
+    let branches = sizes::both(
         counters.open_branches <= OPEN_BRANCHES as u32,
         is_register_set(counters.in_use),
     );
-    let slots = both(counters.freed_slots <= FREED_SLOTS as u32, branches);
-    let first = both(counters.first_freed_slot < FREED_SLOTS as u32, slots);
-    let freed = both(counters.freed_registers <= FREED_REGISTERS as u32, first);
-    let seen = both(counters.events_seen <= 1, freed);
-    let records = both(counters.records <= VARIABLES as u32, seen);
-    let tail = both(counters.in_tail_position <= 1, records);
-    let arity = both(sizes::is_argument(counters.arity), tail);
-    let perm = both(is_counter(counters.perm_lb), arity);
-    let temp = both(is_counter(counters.temp_lb), perm);
-    both(is_counter(counters.arg_c), temp)
+    let slots = sizes::both(counters.freed_slots <= FREED_SLOTS as u32, branches);
+    let first = sizes::both(counters.first_freed_slot < FREED_SLOTS as u32, slots);
+    let freed = sizes::both(counters.freed_registers <= FREED_REGISTERS as u32, first);
+    let seen = sizes::both(counters.events_seen <= 1, freed);
+    let records = sizes::both(counters.records <= VARIABLES as u32, seen);
+    let tail = sizes::both(counters.in_tail_position <= 1, records);
+    let arity = sizes::both(sizes::is_argument(counters.arity), tail);
+    let perm = sizes::both(is_counter(counters.perm_lb), arity);
+    let temp = sizes::both(is_counter(counters.temp_lb), perm);
+    sizes::both(is_counter(counters.arg_c), temp)
 }
 
 // Whether a number is that of a variable, or of none.
@@ -111,66 +98,18 @@ fn names_none_or(records: u32, v: u32) -> bool
 fn row_fits(records: u32, row: Row) -> bool
     ensures { λ r. ⌜ r ≡ rowFits records row ⌝ }
 {
-    let counts = both(
+    let counts = sizes::both(
         sizes::is_count(row.num_occurrences),
         sizes::is_count(row.running_count),
     );
-    let names = both(names_none_or(records, row.to_perm_var_num), counts);
-    let deep = both(row.deep.code <= 2, names);
-    let safety = both(row.safety.code <= 2, deep);
-    let pending = both(row.pending <= 1, safety);
-    let place = both(sizes::is_argument(row.place), pending);
-    let chunk = both(sizes::is_chunk(row.chunk), place);
-    let context = both(row.context <= 2, chunk);
-    both(row.kind <= 1, context)
-}
-
-// The numbers of a variable's row. A number of no variable is taken modulo the number of variables.
-fn row_at(records: &Records, v: u32) -> Row
-    ensures { λ r. ⌜ r ≡ rowAt (now (records .entry)) v ⌝ }
-{
-    let at = (v % variable_records::UNSET) as usize * variable_records::ROW;
-    Row {
-        kind: records[at],
-        context: records[at + 1],
-        chunk: records[at + 2],
-        place: records[at + 3],
-        pending: records[at + 4],
-        safety: SafetyRow {
-            code: records[at + 5],
-            start: records[at + 6],
-            span: records[at + 7],
-        },
-        deep: SafetyRow {
-            code: records[at + 8],
-            start: records[at + 9],
-            span: records[at + 10],
-        },
-        to_perm_var_num: records[at + 11],
-        num_occurrences: records[at + 12],
-        running_count: records[at + 13],
-    }
-}
-
-// Whether a number stands for the head, or for a context of a chunk that there is.
-fn is_context(context: u32) -> bool
-    ensures { λ r. ⌜ r ≡ isContext context ⌝ }
-{
-    let first = temp_var_data::context_of(temp_var_data::mid_use(0, 0));
-    let last = temp_var_data::context_of(temp_var_data::last_use(LAST_CHUNK, 0));
-    if context == 0 {
-        return true;
-    }
-    both(first <= context, context <= last)
-}
-
-// Whether a number stands for a use of a register that there is, in a chunk that there is.
-fn is_use(code: u32) -> bool
-    ensures { λ r. ⌜ r ≡ isUse code ⌝ }
-{
-    let register = temp_var_data::register_of(code);
-    let context = temp_var_data::context_of(code);
-    both(sizes::is_register(register), is_context(context))
+    let names = sizes::both(names_none_or(records, row.to_perm_var_num), counts);
+    let deep = sizes::both(row.deep.code <= 2, names);
+    let safety = sizes::both(row.safety.code <= 2, deep);
+    let pending = sizes::both(row.pending <= 1, safety);
+    let place = sizes::both(sizes::is_argument(row.place), pending);
+    let chunk = sizes::both(sizes::is_chunk(row.chunk), place);
+    let context = sizes::both(row.context <= 2, chunk);
+    sizes::both(row.kind <= 1, context)
 }
 
 // Whether the uses of a variable that count are uses.
@@ -185,7 +124,7 @@ fn uses_fit(use_sets: &UseSets, use_counts: &UseCounts, v: u32) -> bool
     }
     let mut i = 0;
     while i < count {
-        if is_use(use_sets[row * USES + i as usize]) {
+        if events::is_use(use_sets[row * USES + i as usize]) {
             i += 1;
         } else {
             return false;
@@ -207,11 +146,14 @@ fn variable_fits(
     requires { ⌜ v < variables ⌝ }
     ensures { λ r. ⌜ r ≡ variableFits (ofSets counters (now (records .entry)) (now («use_sets» .entry)) (now («use_counts» .entry)) (now («no_use» .entry)) (now (conflict .entry))) v ⌝ }
 {
-    let of_row = row_fits(counters.records, row_at(records, v));
+    let of_row = row_fits(counters.records, variable_records::row_at(records, v));
     let of_uses = uses_fit(use_sets, use_counts, v);
     let of_no_use = is_register_set(no_use[v as usize]);
     let of_conflict = is_register_set(conflict[v as usize]);
-    both(of_row, both(of_uses, both(of_no_use, of_conflict)))
+    sizes::both(
+        of_row,
+        sizes::both(of_uses, sizes::both(of_no_use, of_conflict)),
+    )
 }
 
 // Whether every variable's does.
@@ -245,7 +187,7 @@ fn mapping_fits(counters: Counters, records: &Records, v: u32) -> bool
         return true;
     }
     let temporary = variable_records::is_temporary(records, v);
-    both(v < counters.records, temporary)
+    sizes::both(v < counters.records, temporary)
 }
 
 // Whether every mapping does.
@@ -283,7 +225,7 @@ fn freed_registers_fit(counters: Counters, list: &TempFreeList) -> bool
 fn entry_fits(counters: Counters, entry: FreedSlot) -> bool
     ensures { λ r. ⌜ r ≡ entryFits (ofFreedSlots counters []) entry ⌝ }
 {
-    both(
+    sizes::both(
         sizes::is_chunk(entry.chunk),
         entry.variable < counters.records,
     )
@@ -336,7 +278,7 @@ fn member_is_permanent(counters: Counters, records: &Records, set: BitSet, v: u3
 {
     if bit_set::contains(set, v) {
         let permanent = !variable_records::is_temporary(records, v);
-        return both(v < counters.records, permanent);
+        return sizes::both(v < counters.records, permanent);
     }
     true
 }
@@ -361,10 +303,10 @@ fn occurrences_fit(counters: Counters, records: &Records, branch: BranchOccurren
     ensures { λ r. ⌜ r ≡ occurrencesFit (ofRecords counters (now (records .entry))) branch ⌝ }
 {
     let hits = are_permanent(counters, records, branch.subsumed_hits);
-    let deep = both(are_variables(counters, branch.deep_safety), hits);
-    let shallow = both(are_variables(counters, branch.shallow_safety), deep);
-    let index = both(sizes::is_count(branch.current_branch_idx), shallow);
-    both(sizes::is_count(branch.num_branches), index)
+    let deep = sizes::both(are_variables(counters, branch.deep_safety), hits);
+    let shallow = sizes::both(are_variables(counters, branch.shallow_safety), deep);
+    let index = sizes::both(sizes::is_count(branch.current_branch_idx), shallow);
+    sizes::both(sizes::is_count(branch.num_branches), index)
 }
 
 // Whether those of every open branch do.

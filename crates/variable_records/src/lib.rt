@@ -268,7 +268,7 @@ pub fn row_of(variable: VariableRecord) -> Row
 }
 
 // The numbers of a variable's row. A number of no variable is taken modulo the number of variables.
-fn row_at(records: &Records, v: u32) -> Row
+pub fn row_at(records: &Records, v: u32) -> Row
     ensures { λ r. ⌜ r ≡ rowAt (now (records .entry)) v ⌝ }
 {
     let at = (v % UNSET) as usize * ROW;

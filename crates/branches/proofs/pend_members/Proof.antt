@@ -6,7 +6,7 @@ use borrow.Author.Needs.{needs}
 use Rattle.sizes.specs.Sizes.{variables}
 use Rattle.notation.specs.Lists.{numbersFrom}
 use Rattle.branches.specs.Lists.{membersAmong, members, each}
-use Rattle.branches.specs.ListLaws.{each-member, each-member-end}
+use Rattle.branches.specs.ListLaws.{from-below, from-none, each-member, each-member-end}
 use Rattle.branches.specs.Branches.{variablePended, pendedIfMember}
 use Rattle.branches.proofs.pend_members.Statement.{statement}
 use Rattle.branches.proofs.pend_members.Tie as tie
@@ -20,24 +20,34 @@ abbrev μ-loop : tie.MeasureT-loop
 loop-holds : tie.Need-loop-holds Inv-loop μ-loop
 loop-holds c = refl
 
-cast-loop : tie.Need-cast-loop Inv-loop μ-loop
-cast-loop c = search needs
+has-from-requires : tie.Need-has-from-requires Inv-loop μ-loop
+has-from-requires c κs = search needs
 
 pend-member-requires : tie.Need-pend-member-requires Inv-loop μ-loop
 pend-member-requires c κs = search needs
 
 add-v : tie.Need-add-v Inv-loop μ-loop
-add-v c = search needs
+add-v c =
+    let test = c .before .before in
+    search (needs, from-below _ _ (test .before .has-from .ensures) (test .if1 .taken))
 
 loop-less : tie.Need-loop-less Inv-loop μ-loop
-loop-less c = search needs
+loop-less c =
+    let test = c .before .before in
+    search (needs, from-below _ _ (test .before .has-from .ensures) (test .if1 .taken))
 
 loop-again : tie.Need-loop-again Inv-loop μ-loop
 unfolding pendedIfMember
-loop-again c = let l = c .before .before .before .loop in each-member variablePended (l .v) variables _ _ (l .inv) (c .before .before .loop-test .taken) (c .pend-member .ensures)
+loop-again c =
+    let test = c .before .before in
+    let l = test .before .before .loop in
+    let below = from-below _ _ (test .before .has-from .ensures) (test .if1 .taken) in
+    each-member variablePended (l .v) variables _ _ (l .inv) below (c .pend-member .ensures)
 
 returns : tie.Need-returns Inv-loop μ-loop
-returns c = let l = c .before .loop in each-member-end variablePended (l .v) variables _ (l .inv) (c .loop-test .left)
+returns c =
+    let l = c .before .before .loop in
+    each-member-end variablePended (l .v) variables _ (l .inv) (from-none _ _ (c .before .has-from .ensures) (c .if1 .left))
 
 pub pend-members-spec : {M : Type 1} → statement M
 pend-members-spec =
@@ -46,7 +56,7 @@ pend-members-spec =
     Inv-loop
     μ-loop
     loop-holds
-    cast-loop
+    has-from-requires
     pend-member-requires
     add-v
     loop-less

@@ -7,7 +7,7 @@ use Rattle.sizes.specs.Sizes.{variables}
 use Rattle.branches.specs.declared.Guards.{Guards}
 use Rattle.notation.specs.Lists.{numbersFrom}
 use Rattle.branches.specs.Lists.{membersAmong, members, each}
-use Rattle.branches.specs.ListLaws.{each-member, each-member-end}
+use Rattle.branches.specs.ListLaws.{from-below, from-none, each-member, each-member-end}
 use Rattle.branches.specs.Branches.{insertedIf, shallowTaken, deepTaken, safetyTaken}
 use Rattle.branches.specs.BranchesLaws.{shallow-if-member, deep-if-member}
 use Rattle.branches.proofs.take_safety.Statement.{statement}
@@ -24,8 +24,8 @@ abbrev μ-loop : tie.MeasureT-loop
 loop-holds : tie.Need-loop-holds Inv-loop μ-loop
 loop-holds c = (refl, refl)
 
-cast-loop : tie.Need-cast-loop Inv-loop μ-loop
-cast-loop c = search needs
+has-from-requires : tie.Need-has-from-requires Inv-loop μ-loop
+has-from-requires c κs = search needs
 
 member-guards-requires : tie.Need-member-guards-requires Inv-loop μ-loop
 member-guards-requires c κs = search needs
@@ -37,16 +37,21 @@ insert-if-requires-2 : tie.Need-insert-if-requires-2 Inv-loop μ-loop
 insert-if-requires-2 c κs = search needs
 
 add-v : tie.Need-add-v Inv-loop μ-loop
-add-v c = search needs
+add-v c =
+    let test = c .before .before .before in
+    search (needs, from-below _ _ (test .before .has-from .ensures) (test .if1 .taken))
 
 loop-less : tie.Need-loop-less Inv-loop μ-loop
-loop-less c = search needs
+loop-less c =
+    let test = c .before .before .before in
+    search (needs, from-below _ _ (test .before .has-from .ensures) (test .if1 .taken))
 
 loop-again : tie.Need-loop-again Inv-loop μ-loop
 loop-again c =
-    let a = c .before .before .before .before .before .args in
-    let l = c .before .before .before .before .loop in
-    let more = c .before .before .before .loop-test .taken in
+    let test = c .before .before .before in
+    let a = test .before .before .before .args in
+    let l = test .before .before .loop in
+    let more = from-below _ _ (test .before .has-from .ensures) (test .if1 .taken) in
     let guards = c .before .before .member-guards .ensures in (
       each-member _ (l .v) variables _ _ (l .inv .0) more (c .before .insert-if .ensures ∙ ap (λ (g : Guards). insertedIf (l .shallow) (l .v) (g .shallow)) guards ∙ shallow-if-member (a .records .now) (a .top) (l .shallow) (l .v)),
       each-member _ (l .v) variables _ _ (l .inv .1) more (c .insert-if2 .ensures ∙ ap (λ (g : Guards). insertedIf (l .deep) (l .v) (g .deep)) guards ∙ deep-if-member (a .records .now) (a .top) (l .deep) (l .v)),
@@ -58,9 +63,11 @@ empty-requires c κs = search needs
 returns : tie.Need-returns Inv-loop μ-loop
 unfolding safetyTaken
 returns c =
-    let l = c .before .before .loop in
-    let shallow = each-member-end _ (l .v) variables _ (l .inv .0) (c .before .loop-test .left) in
-    let deep = each-member-end _ (l .v) variables _ (l .inv .1) (c .before .loop-test .left) in
+    let test = c .before in
+    let l = test .before .before .loop in
+    let none = from-none _ _ (test .before .has-from .ensures) (test .if1 .left) in
+    let shallow = each-member-end _ (l .v) variables _ (l .inv .0) none in
+    let deep = each-member-end _ (l .v) variables _ (l .inv .1) none in
     simp (shallow, deep, c .empty .ensures)
 
 pub take-safety-spec : {M : Type 1} → statement M
@@ -70,7 +77,7 @@ take-safety-spec =
     Inv-loop
     μ-loop
     loop-holds
-    cast-loop
+    has-from-requires
     member-guards-requires
     insert-if-requires
     insert-if-requires-2

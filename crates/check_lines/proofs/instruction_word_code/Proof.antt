@@ -1,6 +1,6 @@
 -- `check_lines::instruction_word_code`: each way of the code is a case of the definition. Assumes nothing.
 use borrow.Author.Needs.{needs}
-use Rattle.check_lines.specs.Codes.{codeAmong}
+use Rattle.words.specs.Words.{codeAmong}
 use Rattle.check_lines.proofs.instruction_word_code.Statement.{statement}
 use Rattle.check_lines.proofs.instruction_word_code.Tie as tie
 

@@ -1,75 +1,27 @@
--- `event_calls::step_line`: a line without form is refused, any other is carried out with the entries that were read. Assumes
--- nothing.
-use Prim.Native.Nat.{ℕ, _-_}
-use mathlib.Core.Path.{_≡_, ap}
+-- `event_calls::step_line`: either list has room for the entries of the line. Assumes nothing.
 use native.Mathlib.Omega.{arith}
-use lib.ListN.{take}
 use borrow.Author.Needs.{needs}
-use Rattle.event_calls.specs.CallLaws.{line-malformed, count-within, line-said}
+use Rattle.event_lines.specs.EventLinesLaws.{list-le, list-within}
 use Rattle.event_calls.proofs.step_line.Statement.{statement}
 use Rattle.event_calls.proofs.step_line.Tie as tie
 
-read-line-requires : tie.Need-read-line-requires
-read-line-requires c κs = search needs
+slice-aggregate-step-read : tie.Need-slice-aggregate-step-read
+slice-aggregate-step-read c = search needs
 
-enum-told : tie.Need-enum-told
-enum-told c = search needs
-
-malformed-requires : tie.Need-malformed-requires
-malformed-requires c κs = search needs
-
-enum-known-said : tie.Need-enum-known-said
-enum-known-said c = search needs
-
-sub-step : tie.Need-sub-step
-sub-step c = search needs
-
-part-step-start : tie.Need-part-step-start
-part-step-start c = search needs
-
-part-step-end : tie.Need-part-step-end
-part-step-end c =
-    let read = c .before .before .before .before in
-    let short = count-within _ (read .read-line .ensures .0) _ (c .before .before .said .given .1) (search needs) (read .read-line .ensures .1) in
-    search (needs, short)
-
-step-requires : tie.Need-step-requires
-step-requires c κs = search needs
+step-read-requires : tie.Need-step-read-requires
+step-read-requires c κs = omega (arith, list-le (c .before .before .before .args .line .now), c .before .if1 .taken)
 
 returns : tie.Need-returns
-returns c =
-    line-malformed _
-    (c .before .before .before .read-line .ensures .0)
-    _
-    (c .before .enum-told .given .1)
-    (c .malformed .ensures)
+returns c = c .before .step-read .ensures
+
+slice-aggregate-step-read-2 : tie.Need-slice-aggregate-step-read-2
+slice-aggregate-step-read-2 c = search needs
+
+step-read-requires-2 : tie.Need-step-read-requires-2
+step-read-requires-2 c κs = list-within (c .before .before .before .args .line .now)
 
 returns-2 : tie.Need-returns-2
-returns-2 c =
-    let read = c .before .before .before .before .before .before in
-    let said = c .before .before .before .before .said .given in
-    let all : said .0 .1 .0 - 0 ≡ said .0 .1 .0 = omega arith in
-    line-said _
-    (read .read-line .ensures .0)
-    _
-    (said .1)
-    (search needs)
-    (read .read-line .ensures .1)
-    _
-    (ap (λ (k : ℕ). take k (read .read-line .last .1 .0)) all)
-    (c .step .ensures)
+returns-2 c = c .before .step-read2 .ensures
 
 pub step-line-spec : {M : Type 1} → statement M
-step-line-spec =
-    tie.close
-    (tie.spec
-    read-line-requires
-    enum-told
-    malformed-requires
-    enum-known-said
-    sub-step
-    part-step-start
-    part-step-end
-    step-requires
-    returns
-    returns-2)
+step-line-spec = tie.close (tie.spec slice-aggregate-step-read step-read-requires returns slice-aggregate-step-read-2 step-read-requires-2 returns-2)

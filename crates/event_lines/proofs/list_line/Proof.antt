@@ -20,30 +20,30 @@ close-line-requires c κs = search needs
 returns : tie.Need-returns
 unfolding listLine listEntries
 returns c =
-    (simp (c .before .before .match .keys1, c .temp-line .ensures .0), simp (c .before .before .match .keys1, c .temp-line .ensures .1))
+    (simp (c .before .before .before .before .match .keys1, c .before .before .temp-line .ensures .0), simp (c .before .before .before .before .match .keys1, c .before .before .temp-line .ensures .1))
 
 returns-2 : tie.Need-returns-2
 unfolding listLine listEntries
 returns-2 c =
-    let k = c .before .before .before .match .keys2 in
-    (simp (k, c .headed .ensures, c .before .read-list .ensures .0), simp (k, c .before .read-list .ensures .1))
+    let k = c .before .before .before .before .before .match .keys2 in
+    (simp (k, c .headed .ensures, c .before .before .before .read-list .ensures .0), simp (k, c .before .before .before .read-list .ensures .1))
 
 returns-3 : tie.Need-returns-3
 unfolding listLine listEntries
 returns-3 c =
-    let k = c .before .before .match .rest in (
-      simp (ne-eqb _ _ (k .0 .1), ne-eqb _ _ (k .1), c .close-line .ensures .0),
-      simp (ne-eqb _ _ (k .0 .1), ne-eqb _ _ (k .1), c .close-line .ensures .1),
+    let k = c .before .before .before .before .match .rest in (
+      simp (ne-eqb _ _ (k .0 .1), ne-eqb _ _ (k .1), c .before .before .close-line .ensures .0),
+      simp (ne-eqb _ _ (k .0 .1), ne-eqb _ _ (k .1), c .before .before .close-line .ensures .1),
     )
 
+same-length : tie.Need-same-length
+same-length c = search needs
+
+same-length-2 : tie.Need-same-length-2
+same-length-2 c = search needs
+
+same-length-3 : tie.Need-same-length-3
+same-length-3 c = search needs
+
 pub list-line-spec : {M : Type 1} → statement M
-list-line-spec =
-    tie.close
-    (tie.spec
-    temp-line-requires
-    read-list-requires
-    headed-requires
-    close-line-requires
-    returns
-    returns-2
-    returns-3)
+list-line-spec = tie.close (tie.spec temp-line-requires read-list-requires headed-requires close-line-requires same-length returns same-length-2 returns-2 same-length-3 returns-3)

@@ -1,6 +1,6 @@
 -- `event_lines::number_word_code`: each way of the code is a case of the definition. Assumes nothing.
 use borrow.Author.Needs.{needs}
-use Rattle.event_lines.specs.Codes.{codeAmong}
+use Rattle.words.specs.Words.{codeAmong}
 use Rattle.event_lines.proofs.number_word_code.Statement.{statement}
 use Rattle.event_lines.proofs.number_word_code.Tie as tie
 

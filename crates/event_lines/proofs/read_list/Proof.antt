@@ -5,7 +5,6 @@ use mathlib.Core.Path.{_≡_, refl, sym, ap, _∙_}
 use native.Mathlib.Omega.{arith}
 use lib.ListN.{length, take, drop}
 use borrow.Author.Needs.{needs}
-use Rattle.sizes.specs.Sizes.{sheetBytes}
 use Rattle.fields.specs.Fields.{fieldsLeft}
 use Rattle.fields.specs.FieldsLaws.{left-none, left-some, left-shorter}
 use Rattle.printing.specs.Printing.{printed}
@@ -18,16 +17,17 @@ use Rattle.event_lines.proofs.read_list.Statement.{statement}
 
 abbrev Inv-loop : tie.InvT-loop
 Inv-loop entries rest mark list₀ left₀ count₀ list left count =
-    (count + length left ≤ sheetBytes)
+    (count + length left ≤ length rest)
     × (allEntries entries (fieldsLeft mark rest) ≡ allEntries entries (fieldsLeft mark left))
     × (length (fieldsLeft mark rest) ≡ count + length (fieldsLeft mark left))
     × (printed list count (leading entries (fieldsLeft mark left)) ≡ printed list₀ 0 (leading entries (fieldsLeft mark rest)))
+    × (length list ≡ length list₀)
 
 abbrev μ-loop : tie.MeasureT-loop
 μ-loop entries rest mark list₀ left₀ count₀ list left count = length left
 
 loop-holds : tie.Need-loop-holds Inv-loop μ-loop
-loop-holds c = (omega (arith, c .before .pre), refl, omega arith, refl)
+loop-holds c = (omega arith, refl, omega arith, refl, refl)
 
 end-of-field-requires : tie.Need-end-of-field-requires Inv-loop μ-loop
 end-of-field-requires c κs = search needs
@@ -46,7 +46,7 @@ enum-told c = search needs
 
 returns : tie.Need-returns Inv-loop μ-loop
 returns c =
-    let a = c .before .before .before .before .before .before .before .before .args in
+    let a = c .before .before .before .before .before .before .before .before .before .args in
     let l = c .before .before .before .before .before .before .loop in
     let left = l .left .now in
     let some = c .before .before .before .before .before .loop-test .taken in
@@ -58,11 +58,8 @@ returns c =
           ∙ l .inv .3,
     )
 
-mul-list : tie.Need-mul-list Inv-loop μ-loop
-mul-list c = search needs
-
-element-write-list : tie.Need-element-write-list Inv-loop μ-loop
-element-write-list c = search needs
+put-entry-requires : tie.Need-put-entry-requires Inv-loop μ-loop
+put-entry-requires c κs = search needs
 
 add-count : tie.Need-add-count Inv-loop μ-loop
 add-count c = search needs
@@ -72,34 +69,35 @@ rest-after-requires c κs = search needs
 
 loop-less : tie.Need-loop-less Inv-loop μ-loop
 loop-less c =
-    let a = c .before .before .before .before .before .before .before .before .before .before .args in
-    let left = c .before .before .before .before .before .before .before .before .loop .left .now in
-    let behind = c .rest-after .ensures ∙ ap (λ (k : ℕ). drop k left) (c .before .before .before .before .before .before .end-of-field .ensures) in
-    omega (arith, ap length behind, left-shorter (a .mark) left (c .before .before .before .before .before .before .before .loop-test .taken))
+    let a = c .before .before .before .before .before .before .before .before .before .before .before .before .before .before .before .args in
+    let left = c .before .before .before .before .before .before .before .before .before .before .before .before .loop .left .now in
+    let behind = c .rest-after .ensures ∙ ap (λ (k : ℕ). drop k left) (c .before .before .before .before .before .before .before .before .before .before .end-of-field .ensures) in
+    omega (arith, ap length behind, left-shorter (a .mark) left (c .before .before .before .before .before .before .before .before .before .before .before .loop-test .taken))
 
 loop-again : tie.Need-loop-again Inv-loop μ-loop
 loop-again c =
-    let a = c .before .before .before .before .before .before .before .before .before .before .args in
-    let l = c .before .before .before .before .before .before .before .before .loop in
+    let a = c .before .before .before .before .before .before .before .before .before .before .before .before .before .before .before .args in
+    let l = c .before .before .before .before .before .before .before .before .before .before .before .before .loop in
     let left = l .left .now in
-    let some = c .before .before .before .before .before .before .before .loop-test .taken in
-    let ends = c .before .before .before .before .before .before .end-of-field .ensures in
-    let part = c .before .before .before .before .before .field .ensures ∙ ap (λ (k : ℕ). take (k - 1) (drop 1 left)) ends in
+    let some = c .before .before .before .before .before .before .before .before .before .before .before .loop-test .taken in
+    let ends = c .before .before .before .before .before .before .before .before .before .before .end-of-field .ensures in
+    let part = c .before .before .before .before .before .before .before .before .before .field .ensures ∙ ap (λ (k : ℕ). take (k - 1) (drop 1 left)) ends in
     let behind = c .rest-after .ensures ∙ ap (λ (k : ℕ). drop k left) ends in
-    let n = c .before .before .entry .given .0 .0 in
-    let one = sym (ap (entryOf (a .entries)) part) ∙ sym (c .before .before .before .before .entry-of .ensures) ∙ c .before .before .entry .given .1 in
+    let n = c .before .before .before .before .before .before .entry .given .0 .0 in
+    let one = sym (ap (entryOf (a .entries)) part) ∙ sym (c .before .before .before .before .before .before .before .before .entry-of .ensures) ∙ c .before .before .before .before .before .before .entry .given .1 in
     rw behind (
       omega (arith, left-shorter (a .mark) left some),
       l .inv .1 ∙ all-more (a .entries) (a .mark) left some n one,
       omega (arith, ap length (left-some (a .mark) left some)),
-      put-more (l .list) (l .count) n _
+      put-more (l .list) (l .count) n _ (c .before .before .before .put-entry .ensures)
           ∙ ap (printed (l .list) (l .count)) (sym (leading-more (a .entries) (a .mark) left some n one))
           ∙ l .inv .3,
+      search needs,
     )
 
 returns-2 : tie.Need-returns-2 Inv-loop μ-loop
 returns-2 c =
-    let a = c .before .before .before .args in
+    let a = c .before .before .before .before .args in
     let l = c .before .loop in
     let left = l .left .now in
     let empty : length left ≡ 0 = omega arith in
@@ -110,23 +108,11 @@ returns-2 c =
           ∙ l .inv .3,
     )
 
+same-length : tie.Need-same-length Inv-loop μ-loop
+same-length c = search needs
+
+same-length-2 : tie.Need-same-length-2 Inv-loop μ-loop
+same-length-2 c = search needs
+
 pub read-list-spec : {M : Type 1} → statement M
-read-list-spec =
-    tie.close
-    (tie.spec
-    Inv-loop
-    μ-loop
-    loop-holds
-    end-of-field-requires
-    field-requires
-    entry-of-requires
-    enum-known-entry
-    enum-told
-    returns
-    mul-list
-    element-write-list
-    add-count
-    rest-after-requires
-    loop-less
-    loop-again
-    returns-2)
+read-list-spec = tie.close (tie.spec Inv-loop μ-loop loop-holds end-of-field-requires field-requires entry-of-requires enum-known-entry enum-told same-length returns put-entry-requires add-count rest-after-requires loop-less loop-again same-length-2 returns-2)

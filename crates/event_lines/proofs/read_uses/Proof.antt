@@ -26,7 +26,7 @@ is-requires c κs = search needs
 
 returns : tie.Need-returns
 returns c =
-    let a = c .before .before .before .before .before .before .before .args in
+    let a = c .before .before .before .before .before .before .before .before .args in
     let rest = a .rest .now in
     let ends = c .before .before .before .before .before .end-of-field .ensures in
     let whole = sym ends ∙ c .before .before .before .before .if1 .taken in
@@ -39,33 +39,26 @@ read-list-requires c κs = search needs
 
 returns-2 : tie.Need-returns-2
 returns-2 c =
-    let a = c .before .before .before .before .before .before .before .before .before .args in
+    let a = c .before .before .before .before .before .before .before .before .before .before .before .before .args in
     let rest = a .rest .now in
-    let ends = c .before .before .before .before .before .before .before .end-of-field .ensures in
-    let whole = sym ends ∙ c .before .before .before .before .before .before .if1 .taken in
-    let part = c .before .before .before .before .before .field .ensures ∙ ap (λ (k : ℕ). take (k - 1) (drop 1 rest)) ends in
-    let other = sym (ap (λ (s : List ℕ). same s (bytes "-")) part) ∙ sym (c .before .before .before .is .ensures) ∙ c .before .before .if2 .left in (
-      c .read-list .ensures .0 ∙ sym (uses-some rest whole other),
-      rw (uses-some-list rest whole other) (c .read-list .ensures .1),
+    let ends = c .before .before .before .before .before .before .before .before .before .end-of-field .ensures in
+    let whole = sym ends ∙ c .before .before .before .before .before .before .before .before .if1 .taken in
+    let part = c .before .before .before .before .before .before .before .field .ensures ∙ ap (λ (k : ℕ). take (k - 1) (drop 1 rest)) ends in
+    let other = sym (ap (λ (s : List ℕ). same s (bytes "-")) part) ∙ sym (c .before .before .before .before .before .is .ensures) ∙ c .before .before .before .before .if2 .left in (
+      c .before .before .read-list .ensures .0 ∙ sym (uses-some rest whole other),
+      rw (uses-some-list rest whole other) (c .before .before .read-list .ensures .1),
     )
 
 returns-3 : tie.Need-returns-3
 returns-3 c =
-    let a = c .before .before .before .args in
+    let a = c .before .before .before .before .args in
     let rest = a .rest .now in
     let ends = c .before .end-of-field .ensures in
     let not-last : (fieldEnd tab rest ≡ length rest → ⊥) = λ whole. c .if1 .left (ends ∙ whole) in
     (sym (uses-other rest not-last), rw (uses-other-list rest not-last) (sym (put-none (a .list .now) 0)))
 
+same-length : tie.Need-same-length
+same-length c = search needs
+
 pub read-uses-spec : {M : Type 1} → statement M
-read-uses-spec =
-    tie.close
-    (tie.spec
-    end-of-field-requires
-    field-requires
-    slice-aggregate-is
-    is-requires
-    returns
-    read-list-requires
-    returns-2
-    returns-3)
+read-uses-spec = tie.close (tie.spec end-of-field-requires field-requires slice-aggregate-is is-requires returns read-list-requires same-length returns-2 returns-3)

@@ -1,7 +1,5 @@
 -- `event_lines::temp_line`: context and occurrences are the next fields, and the uses are left behind them. Assumes nothing.
-use mathlib.Core.Path.{ap, sym}
-use native.Mathlib.Omega.{arith}
-use lib.ListN.{length, length-drop}
+use mathlib.Core.Path.{sym}
 use borrow.Author.Needs.{needs}
 use Rattle.event_lines.specs.ReadLaws.{temp-step, temp-list-step}
 use Rattle.event_lines.proofs.temp_line.Tie as tie
@@ -32,61 +30,41 @@ read-requires : tie.Need-read-requires
 read-requires c κs = search needs
 
 read-uses-requires : tie.Need-read-uses-requires
-read-uses-requires c κs =
-    let second = c .before .before .before in
-    let first = c .before .before .before .before .before .before in
-    omega (
-      arith,
-      ap length (second .rest-after2 .ensures),
-      length-drop (second .before .before .end-of-field2 .result) (first .rest-after .result .now),
-      ap length (first .rest-after .ensures),
-      length-drop (first .before .before .end-of-field .result) (c .before .before .before .before .before .before .before .before .before .before .args .rest .now),
-      c .before .before .before .before .before .before .before .before .before .before .pre,
-    )
+read-uses-requires c κs = search needs
 
 recorded-requires : tie.Need-recorded-requires
 recorded-requires c κs = search needs
 
 returns : tie.Need-returns
 returns c =
-    let rest = c .before .before .before .before .before .before .before .before .before .before .before .before .args .rest .now in
+    let rest = c .before .before .before .before .before .before .before .before .before .before .before .before .before .before .before .args .rest .now in
     let second = c .before .before .before .before .before in
     let first = c .before .before .before .before .before .before .before .before in (
       simp (
         c .recorded .ensures,
-        c .before .read-uses .ensures .0,
-        c .before .before .before .read .ensures,
-        c .before .before .before .before .context-of .ensures,
-        second .rest-after2 .ensures,
-        second .before .field2 .ensures,
-        second .before .before .end-of-field2 .ensures,
-        first .rest-after .ensures,
-        first .before .field .ensures,
-        first .before .before .end-of-field .ensures,
+        c .before .before .before .read-uses .ensures .0,
+        c .before .before .before .before .before .read .ensures,
+        c .before .before .before .before .before .before .context-of .ensures,
+        second .before .before .rest-after2 .ensures,
+        second .before .before .before .field2 .ensures,
+        second .before .before .before .before .end-of-field2 .ensures,
+        first .before .before .rest-after .ensures,
+        first .before .before .before .field .ensures,
+        first .before .before .before .before .end-of-field .ensures,
       )
           (sym (temp-step rest)),
       simp (
-        c .before .read-uses .ensures .1,
-        second .rest-after2 .ensures,
-        second .before .before .end-of-field2 .ensures,
-        first .rest-after .ensures,
-        first .before .before .end-of-field .ensures,
+        c .before .before .before .read-uses .ensures .1,
+        second .before .before .rest-after2 .ensures,
+        second .before .before .before .before .end-of-field2 .ensures,
+        first .before .before .rest-after .ensures,
+        first .before .before .before .before .end-of-field .ensures,
         temp-list-step rest,
       ),
     )
 
+same-length : tie.Need-same-length
+same-length c = search needs
+
 pub temp-line-spec : {M : Type 1} → statement M
-temp-line-spec =
-    tie.close
-    (tie.spec
-    end-of-field-requires
-    field-requires
-    rest-after-requires
-    end-of-field-requires-2
-    field-requires-2
-    rest-after-requires-2
-    context-of-requires
-    read-requires
-    read-uses-requires
-    recorded-requires
-    returns)
+temp-line-spec = tie.close (tie.spec end-of-field-requires field-requires rest-after-requires end-of-field-requires-2 field-requires-2 rest-after-requires-2 context-of-requires read-requires read-uses-requires recorded-requires same-length returns)

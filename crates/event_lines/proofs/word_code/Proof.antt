@@ -1,6 +1,7 @@
 -- `event_lines::word_code`: each way of the code is a case of the definition. Assumes nothing.
 use borrow.Author.Needs.{needs}
-use Rattle.event_lines.specs.Codes.{wordCode, codeAmong}
+use Rattle.words.specs.Words.{codeAmong}
+use Rattle.event_lines.specs.Codes.{wordCode}
 use Rattle.event_lines.proofs.word_code.Statement.{statement}
 use Rattle.event_lines.proofs.word_code.Tie as tie
 

@@ -19,14 +19,14 @@ part-result-end c = search needs
 
 returns : tie.Need-returns
 returns c =
-    let a = c .before .before .before .args in
+    let a = c .before .before .args in
     let e : a .count - 0 ≡ a .count = omega arith in
-    (ap (λ (k : ℕ). take k (a .list .now)) e, search needs)
+    ap (λ (k : ℕ). take k (a .list .now)) e
 
 returns-2 : tie.Need-returns-2
 returns-2 c =
-    let a = c .before .before .args in
-    (sym (take-all (a .count) (a .list .now) (omega arith)), search needs)
+    let a = c .before .args in
+    sym (take-all (a .count) (a .list .now) (omega arith))
 
 pub entries-of-spec : {M : Type 1} → statement M
 entries-of-spec =

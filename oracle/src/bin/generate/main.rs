@@ -16,7 +16,7 @@ use random::Random;
 use std::io::{self, BufWriter, Write};
 use std::process::ExitCode;
 
-const USAGE: &str = "generate --seed S --count N";
+const USAGE: &str = "generate --seed S --count N [--clauses]";
 
 type Kind = fn(&mut Random) -> Vec<u8>;
 
@@ -31,16 +31,25 @@ const KINDS: [(usize, Kind); 7] = [
     (6, |random| large::sheet(random).into_bytes()),
 ];
 
+/// Clauses alone.
+const CLAUSES: [(usize, Kind); 1] = [KINDS[0]];
+
 struct Options {
     seed: u64,
     count: usize,
+    kinds: &'static [(usize, Kind)],
 }
 
 fn read_options(words: &[&str]) -> Option<Options> {
+    let (kinds, words): (&[_], _) = match words {
+        [words @ .., "--clauses"] => (&CLAUSES, words),
+        _ => (&KINDS, words),
+    };
     match *words {
         ["--seed", seed, "--count", count] => Some(Options {
             seed: seed.parse().ok()?,
             count: count.parse().ok()?,
+            kinds,
         }),
         _ => None,
     }
@@ -50,7 +59,7 @@ fn run(options: &Options) -> io::Result<ExitCode> {
     let mut random = Random::new(options.seed);
     let mut output = BufWriter::new(io::stdout().lock());
     for _ in 0..options.count {
-        let kind = random.weighted(&KINDS);
+        let kind = random.weighted(options.kinds);
         write_frame(&mut output, &kind(&mut random))?;
     }
     output.flush()?;

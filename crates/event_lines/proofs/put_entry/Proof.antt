@@ -1,0 +1,24 @@
+-- `event_lines::put_entry`: past the last cell nothing is put. Assumes nothing.
+use mathlib.Core.Path.{sym}
+use lib.Seq.{set-out}
+use borrow.Author.Needs.{needs}
+use Rattle.event_lines.proofs.put_entry.Statement.{statement}
+use Rattle.event_lines.proofs.put_entry.Tie as tie
+
+mul-list : tie.Need-mul-list
+mul-list c = search needs
+
+slice-write-list : tie.Need-slice-write-list
+slice-write-list c = search needs
+
+same-length : tie.Need-same-length
+same-length c = search needs
+
+returns : tie.Need-returns
+returns c = search needs
+
+returns-2 : tie.Need-returns-2
+returns-2 c = let a = c .before .args in sym (set-out (a .list .now) (a .at) (a .n) (c .if1 .left))
+
+pub put-entry-spec : {M : Type 1} → statement M
+put-entry-spec = tie.close (tie.spec mul-list slice-write-list same-length returns returns-2)

@@ -1,0 +1,186 @@
+"""The sheets that tests/speed measures, the same ones in each run. In lines, blanks stand for tabs."""
+import itertools
+
+from replaying import ORACLE, SHEET_BYTES, frames, judged_events, output
+
+SMALL = 2_000  # small sheets
+SMALL_LINES = range(10, 41)
+SEED = 5
+CLAUSES = 12_000  # generated, to have enough that are small and accepted
+VARIABLES = 64
+MOST = 65_535  # the highest count of occurrences
+STEPS = 256  # of a check sheet
+INSTRUCTIONS = 4  # of a step
+REGISTERS = 63
+DEAR = 100  # lines of the dearest event: a full sheet of them takes seconds
+RECORDS = ("temp", "perm")
+
+
+def text(lines):
+    return "".join(line + "\n" for line in lines).replace(" ", "\t").encode()
+
+
+def filled(first, lines):
+    """The first lines, and behind them the others again and again, as many as a full sheet holds."""
+    kept, room = list(first), SHEET_BYTES - len(text(first))
+    for line in itertools.cycle(lines):
+        room -= len(line) + 1
+        if room < 0:
+            break
+        kept.append(line)
+    return text(kept)
+
+
+def shorter(sheet, size):
+    """The lines of a sheet that have their place in so many bytes."""
+    return sheet[: sheet.rfind(b"\n", 0, size) + 1]
+
+
+# ---- Clauses
+
+
+def clauses():
+    """Accepted clauses of the generator."""
+    words = [ORACLE + "/generate", "--seed", str(SEED), "--count", str(CLAUSES), "--clauses"]
+    sheets = frames(output(words))
+    return [sheet for sheet, answer in zip(sheets, judged_events(sheets), strict=True) if answer[:3] != b"no\t"]
+
+
+def small(sheets):
+    """Clauses of a few lines."""
+    return [sheet for sheet in sheets if sheet.count(b"\n") in SMALL_LINES][:SMALL]
+
+
+def renamed(line, shift):
+    """A clause's event, its variables standing behind so many others."""
+    word, *fields = line.split("\t")
+    named = {"var": [3], "cut": [0], "free": [1], "safe": [0], "incr": [0]}.get(word, [])
+    if word in ("head", "close"):
+        named = range(word == "close", len(fields))
+    for at in named:
+        fields[at] = fields[at] if fields[at] == "-" else str(int(fields[at]) + shift)
+    return " ".join([word, *fields])
+
+
+def joined(sheets):
+    """The records of as many clauses as have variables for all, and the events of each. A permanent variable gets more
+    occurrences than marks, since each mark too many fills the queue of freed slots."""
+    records, bodies = [], []
+    for sheet in sheets:
+        lines = sheet.decode().splitlines()
+        own = [line.replace("\t", " ") for line in lines if line.startswith(RECORDS)]
+        if len(records) + len(own) > VARIABLES:
+            break
+        bodies.append([renamed(line, len(records)) for line in lines if not line.startswith(RECORDS)] + ["reset"])
+        records += [f"perm {MOST}" if line.startswith("perm") else line for line in own]
+    return records, bodies
+
+
+def mixed(sheets):
+    """Clauses behind one another, again and again, in one full sheet; less those that the judge refuses at their place."""
+    records, bodies = joined(sheets)
+    kept = text(records)
+    for body in itertools.cycle(bodies):
+        longer = kept + text(body)
+        if len(longer) > SHEET_BYTES:
+            return kept
+        if not judged_events([longer])[0].startswith(b"no\t"):
+            kept = longer
+
+
+# ---- Each word
+
+
+def numbered(form, numbers):
+    return [form.format(number) for number in numbers]
+
+
+def uses(first, count):
+    """The uses of so many registers."""
+    return ",".join(f"l1:{(first + 3 * i) % REGISTERS + 1}" for i in range(count))
+
+
+def marks():
+    """Full sheets of marks, by name; `bound` are temporaries with registers, `slots` permanent variables with slots."""
+    eight = range(8)
+    temps = [f"temp l1 {MOST} -"] * 8
+    bound = [*temps, "args 8", *numbered("var q d m1 {}", eight)]
+    slots = [f"perm {MOST}"] * 8 + numbered("cut {} 0", eight)
+    return {
+        "var, temporary": filled(bound, ["args 8", *numbered("var q s l1 {}", eight)]),
+        "var, permanent": filled(slots, ["args 8", *numbered("var q s l1 {}", eight)]),
+        "var, in place": filled(temps, ["head 0 1 2 3", *numbered("var f s h {}", eight), "contents"]),
+        "var, deep": filled(bound, numbered("var f d h {}", eight)),
+        "var and cut": filled(bound, [line for v in eight for line in (f"var q d l1 {v}", f"cut {v} 1")]),
+        "anon": filled([], [*["anon f d h"] * 60, "contents", "args 0"]),
+        "nonvar": filled([], ["args 1", *["nonvar q s l1 0"] * 60, *["nonvar q d l1 5"] * 60]),
+        "nonvar, new": filled([], [*["nonvar q d l1 0"] * 60, "contents", "args 0"]),
+        "cut": filled(slots, numbered("cut {} 3", eight)),
+        "incr": filled(temps, numbered("incr {}", eight)),
+        "free": filled(temps, numbered("free 3 {}", eight)),
+        "safe": filled(slots, numbered("safe {}", eight)),
+        "take": filled([f"perm {MOST}"] * 8 + ["open 4 2 3"], [*numbered("var q d l1 {}", eight), *["take"] * 8]),
+        "close": filled([*slots, "open 4 2 3"], ["open 5 1 3", "close 1 0 1"]),
+    }
+
+
+def records():
+    """Sheets with as many records as there may be, by name, and one with nothing."""
+    return {
+        "empty": b"",
+        "temp": text(f"temp l1 {MOST} {uses(v, 16)}" for v in range(VARIABLES)),
+        "perm": text([f"perm {MOST}"] * VARIABLES),
+    }
+
+
+def others():
+    """Full sheets of events that are no marks, by name; but few lines of the dearest event."""
+    several = " ".join(str(v) for v in range(REGISTERS))
+    return {
+        "sets, 4 variables": filled([f"temp l1 {MOST} {uses(0, 3)}"] * 4, ["sets"]),
+        "sets, 64 variables": text([f"temp l1 {MOST} {uses(v, 16)}" for v in range(VARIABLES)] + ["sets"] * DEAR),
+        "head, 3 arguments": filled([f"temp l1 {MOST} -"] * 2, ["head 0 - 1"]),
+        "head, 63 arguments": filled([f"temp l1 {MOST} -"] * REGISTERS, ["head " + several]),
+        "args": filled([], ["args 7"]),
+        "give": filled([], [*numbered("give {}", range(1, REGISTERS + 1)), "clearfree"]),
+        "tail": filled([], ["tail 1", "tail 0"]),
+        "next": filled([], [*["next"] * 63, "args 0"]),
+        "open": filled([], [*["open 4 2 3"] * 16, "close 16"]),
+        "arm": filled(["open 4 2 3"], ["arm 5 6"]),
+        "take, nothing marked": filled(["open 4 2 3"], ["take"]),
+        "close, 63 variables": filled([f"perm {MOST}"] * REGISTERS + ["open 4 2 3"], ["close 0 " + several]),
+        "reset": filled([], ["reset"]),
+        "contents": filled([], ["contents"]),
+        "clearfree": filled([], ["clearfree"]),
+    }
+
+
+# ---- Check sheets
+
+
+def head_check(steps=STEPS, right=True):
+    """Head steps alone. All arguments are one variable, so that all registers have to be equal; each step demands as many
+    equalities as it may. The last subterm is left free where the sheet shall be wrong."""
+    lines = []
+    for step in range(steps):
+        k = REGISTERS - step % REGISTERS
+        if step < REGISTERS:
+            lines += [f"h {k} 0", f"get_value x{k} {k % REGISTERS + 1}"]
+        else:
+            lines += ["hd 0", f"unify_value x{k}"]
+        lines += [f"get_value x{(k + 20 * i) % REGISTERS + 1} {k}" for i in range(1, INSTRUCTIONS)]
+    if not right:
+        lines[-INSTRUCTIONS] = "unify_variable y1"
+    return text(lines)
+
+
+def goal_check(steps=STEPS, right=True):
+    """Goals with as many arguments as there are registers. The last move is of a wrong slot where the sheet shall be
+    wrong."""
+    lines = ["gd 0", "set_variable y1", *["put_value y1 1"] * (INSTRUCTIONS - 1)]
+    for step in range(1, steps - 1):
+        k = step % (REGISTERS + 1)
+        lines += [f"g {k} 0", *[f"put_value y1 {k}"] * INSTRUCTIONS] if k else ["call"]
+    if not right:
+        lines[-1] = lines[-1].replace("y1", "y2")
+    return text([*lines, "call"])
