@@ -44,6 +44,11 @@ def output(words, data=b""):
     return subprocess.run(words, input=data, env=ENVIRONMENT, stdout=subprocess.PIPE, check=True).stdout
 
 
+def kit():
+    """The toolchain's folder."""
+    return os.path.dirname(os.path.dirname(output(["rt", "doc"]).decode().strip()))
+
+
 def say(text):
     """Says something beside what is written."""
     print(text, file=sys.stderr)
@@ -68,15 +73,21 @@ def stream(word, sheets, answers):
     return b"".join(b"%s\t%d\t%d\n" % (word, len(sheet), len(answer)) + sheet + answer for sheet, answer in pairs)
 
 
-def streamed(data):
-    """How many sheets a stream holds."""
-    count = at = 0
+def parts(data):
+    """The sheets of a stream: the kind, the sheet and the answer of each."""
+    found, at = [], 0
     while at < len(data):
         end = data.index(b"\n", at)
-        _, sheet, answer = data[at:end].split(b"\t")
-        at = end + 1 + int(sheet) + int(answer)
-        count += 1
-    return count
+        word, sheet, answer = data[at:end].split(b"\t")
+        middle, last = end + 1 + int(sheet), end + 1 + int(sheet) + int(answer)
+        found.append((word, data[end + 1 : middle], data[middle:last]))
+        at = last
+    return found
+
+
+def streamed(data):
+    """How many sheets a stream holds."""
+    return len(parts(data))
 
 
 def refusal(answer):

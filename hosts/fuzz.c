@@ -1,0 +1,148 @@
+/* A target for libFuzzer: two builds of the library answer each input, and are held to the header and to each other.
+ *
+ * fenomirask_* is the library as every host links it. watched_* is the same module, compiled once more with a counter on
+ * each edge and a check of each access; tests/fuzz makes it, and says with FUNCTION what is called: EVENTS, CHECK or LINE.
+ *
+ * An input is two bytes of room, the lower first, and a sheet. Where that is given line by line, a line of eight bytes
+ * that starts with byte 0 also spoils a number of the state: two bytes are its place, four the number.
+ */
+#include <stdio.h>
+#include <stdlib.h>
+#include <string.h>
+
+#include "fenomirask.h"
+
+#define HOLD(condition) \
+    ((condition) ? (void)0 : (fprintf(stderr, "fuzz.c:%d: does not hold: %s\n", __LINE__, #condition), abort()))
+#define BUILD(watched, name) ((watched) ? watched_##name : fenomirask_##name)
+
+extern __typeof__(fenomirask_events) watched_events, watched_check;
+extern __typeof__(fenomirask_fresh) watched_fresh;
+extern __typeof__(fenomirask_event) watched_event;
+extern __typeof__(fenomirask_end) watched_end;
+extern int LLVMFuzzerTestOneInput(const uint8_t *input, size_t bytes);
+
+enum { HEAD_BYTES = 2, SPOIL_BYTES = 8, NUMBERS = sizeof(FenomiraskState) / sizeof(uint32_t) };
+enum { ONE_FILL = 0x35, OTHER_FILL = 0xca, INVALID = -FENOMIRASK_OUTSIDE_SIZE };
+
+/* A call, and what it was answered. */
+typedef struct Call {
+    enum { EVENTS, CHECK, LINE, END } function;
+    const uint8_t *sheet;
+    size_t bytes, lines;
+    FenomiraskState state;
+    int64_t number;
+    uint8_t *out;
+} Call;
+
+/* The four bytes before `in_use` are no part of a state. */
+static int same_state(const FenomiraskState *one, const FenomiraskState *other)
+{
+    size_t from = offsetof(FenomiraskState, counters.in_use);
+    return memcmp(one, other, from - sizeof(uint32_t)) == 0 &&
+           memcmp((const char *)one + from, (const char *)other + from, sizeof *one - from) == 0;
+}
+
+/* Where a call is repeated, the library's frames lie on these bytes: no answer may come from what lay there. */
+__attribute__((noinline, no_sanitize("address"))) static void fill_stack(uint8_t fill)
+{
+    uint8_t stack[FENOMIRASK_EVENTS_STACK];
+    memset(stack, fill, sizeof stack);
+    __asm__ volatile("" : : "r"(stack) : "memory");
+}
+
+/* A call, each part in so many bytes and not one more, held to what the header promises of it alone. */
+static Call answered(Call call, int watched, size_t room, uint8_t fill)
+{
+    uint8_t *sheet = memcpy(malloc(call.bytes), call.sheet, call.bytes), *out = memset(malloc(room), fill, room);
+    FenomiraskState *state = memcpy(malloc(sizeof *state), &call.state, sizeof *state);
+    if (fill == OTHER_FILL)
+        fill_stack(fill);
+    int64_t number = call.function == EVENTS  ? BUILD(watched, events)(sheet, call.bytes, out, room)
+                     : call.function == CHECK ? BUILD(watched, check)(sheet, call.bytes, out, room)
+                     : call.function == LINE  ? BUILD(watched, event)(state, sheet, call.bytes, out, room)
+                                              : BUILD(watched, end)(state, out, room);
+    HOLD(number <= (int64_t)room && memcmp(sheet, call.sheet, call.bytes) == 0);
+    if (FENOMIRASK_REFUSED(number)) {
+        HOLD(FENOMIRASK_REFUSAL(number) >= 1 && FENOMIRASK_REFUSAL(number) <= 9);
+        HOLD(FENOMIRASK_LINE(number) <= call.lines && same_state(state, &call.state));
+    }
+    size_t from = FENOMIRASK_REFUSED(number) ? 0 : (size_t)number;
+    HOLD(from == room || (out[from] == fill && memcmp(out + from, out + from + 1, room - from - 1) == 0));
+    call.number = number;
+    call.out = out;
+    call.state = *state;
+    free(state);
+    free(sheet);
+    return call;
+}
+
+/* The answer with as much room as can be needed; both builds repeat it, and with the input's room as far as that will do.
+ * A line, of which there are many, is repeated once by each build. */
+static Call held(Call call, size_t room)
+{
+    call.lines = call.bytes > 0 && call.sheet[call.bytes - 1] != '\n';
+    for (size_t at = 0; at < call.bytes; at++)
+        call.lines += call.sheet[at] == '\n';
+    size_t most = FENOMIRASK_EVENT_ROOM * (call.lines + (call.function != LINE));
+    Call answer = answered(call, 1, most, ONE_FILL);
+    HOLD(answer.number != -FENOMIRASK_NO_ROOM);
+    for (int turn = 0; turn < 4; turn += call.function < LINE ? 1 : 3) {
+        size_t lent = turn % 2 ? most : room;
+        int fits = answer.number <= (int64_t)lent;
+        Call again = answered(call, turn < 2, lent, turn % 2 ? OTHER_FILL : ONE_FILL);
+        HOLD(again.number == (fits ? answer.number : -FENOMIRASK_NO_ROOM));
+        HOLD(FENOMIRASK_REFUSED(again.number) || memcmp(again.out, answer.out, (size_t)again.number) == 0);
+        HOLD(same_state(&again.state, fits ? &answer.state : &call.state));
+        free(again.out);
+    }
+    return answer;
+}
+
+/* Line by line an event sheet is answered as it is whole, up to the first line that is refused. */
+static void hold_lines(const Call *whole, size_t room)
+{
+    Call call = {.function = LINE, .sheet = whole->sheet};
+    int64_t line = 1, written = 0, refused = 0, valid = 1;
+    FenomiraskState fresh;
+    fenomirask_fresh(memset(&call.state, ONE_FILL, sizeof call.state));
+    watched_fresh(memset(&fresh, OTHER_FILL, sizeof fresh));
+    HOLD(same_state(&fresh, &call.state));
+    for (size_t left = whole->bytes; call.function == LINE; left -= call.bytes, line++) {
+        const uint8_t *feed = memchr(call.sheet += call.bytes, '\n', left);
+        call.function = left > 0 ? LINE : END;
+        call.bytes = feed == NULL ? left : (size_t)(feed + 1 - call.sheet);
+        int spoils = call.bytes == SPOIL_BYTES && call.sheet[0] == 0;
+        if (spoils)
+            memcpy((uint32_t *)&call.state + (call.sheet[1] + 256 * call.sheet[2]) % NUMBERS, call.sheet + 3, sizeof(uint32_t));
+        call = held(call, room % (FENOMIRASK_EVENT_ROOM + 1));
+        valid = spoils ? call.number != INVALID : valid;
+        HOLD(valid ? call.number >= 0 || call.number <= -16 : call.number == INVALID);
+        if (refused == 0 && FENOMIRASK_REFUSED(call.number))
+            refused = -16 * line - (spoils ? FENOMIRASK_UNKNOWN_FORM : FENOMIRASK_REFUSAL(call.number));
+        HOLD(refused != 0 || whole->number < 0 || memcmp(whole->out + written, call.out, (size_t)call.number) == 0);
+        written += call.number;
+        free(call.out);
+    }
+    HOLD(whole->number == (refused == 0 ? written : refused));
+}
+
+int LLVMFuzzerTestOneInput(const uint8_t *input, size_t bytes)
+{
+    if (bytes < HEAD_BYTES)
+        return -1;
+    Call call = {.function = FUNCTION == CHECK ? CHECK : EVENTS, .sheet = input + HEAD_BYTES, .bytes = bytes - HEAD_BYTES};
+    size_t room = input[0] + 256u * input[1];
+    call = held(call, room);
+    size_t last = call.number > 0 ? (size_t)call.number - 1 : 0;
+    while (last > 0 && call.out[last - 1] != '\n')
+        last--;
+    if (!FENOMIRASK_REFUSED(call.number) && call.function == EVENTS)
+        HOLD(memcmp(call.out + last, "end\t", 4) == 0);
+    if (!FENOMIRASK_REFUSED(call.number) && call.function == CHECK)
+        HOLD(call.number == 9 && (memcmp(call.out, "accepted\n", 9) == 0 || memcmp(call.out, "rejected\n", 9) == 0));
+    if (FUNCTION == LINE && call.bytes <= FENOMIRASK_SHEET_BYTES)
+        hold_lines(&call, room);
+    free(call.out);
+    return 0;
+}
