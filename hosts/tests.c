@@ -101,7 +101,8 @@ static uint8_t *lend(struct area area, size_t bytes, enum placement placement, u
     return area.start + offset;
 }
 
-/* Whether a lent part starts with the text, and every other byte of it and of its guards is still the fill. */
+/* Whether a lent part starts with the text, if one is given, and every other byte behind it and of its guards is still the
+ * fill. */
 static int is_left(const uint8_t *first, size_t all, const uint8_t *part, const uint8_t *text, size_t bytes,
                    uint8_t fill)
 {
@@ -112,7 +113,7 @@ static int is_left(const uint8_t *first, size_t all, const uint8_t *part, const 
     for (i = before + bytes; i < all; i++)
         if (first[i] != fill)
             return 0;
-    return bytes == 0 || memcmp(part, text, bytes) == 0;
+    return text == NULL || bytes == 0 || memcmp(part, text, bytes) == 0;
 }
 
 /* ---- Calls */
@@ -258,8 +259,8 @@ static int64_t call(FenomiraskState *state, const void *line, size_t line_bytes,
         memcpy(lent_line, line, line_bytes);
     got = line == NULL ? fenomirask_end(lent, out, room) : fenomirask_event(lent, lent_line, line_bytes, out, room);
     *kept = got <= (int64_t)room && is_left(first_line, all_line, lent_line, line, line_bytes, fill)
-            && is_left(first_out, all_out, out, out, got < 0 ? 0 : (size_t)got, fill)
-            && is_left(first_state, all_state, lent_state, lent_state, sizeof *state, fill)
+            && is_left(first_out, all_out, out, NULL, got < 0 ? 0 : (size_t)got, fill)
+            && is_left(first_state, all_state, lent_state, NULL, sizeof *state, fill)
             && ((line != NULL && got >= 0) || same_state(lent, state));
     if (got > 0 && got <= (int64_t)room && got <= FENOMIRASK_EVENT_ROOM)
         memcpy(text, out, (size_t)got);
@@ -339,7 +340,7 @@ static void fresh_states(void)
             uint8_t *lent = lend(states, sizeof wanted, (enum placement)placement, &first, &all);
             memset(lent, over[i], sizeof wanted);
             fenomirask_fresh((FenomiraskState *)(void *)lent);
-            count(is_left(first, all, lent, lent, sizeof wanted, fills[placement])
+            count(is_left(first, all, lent, NULL, sizeof wanted, fills[placement])
                       && same_state((FenomiraskState *)(void *)lent, &wanted),
                   "a fresh clause", "fresh", over[i], 0, 0);
         }
