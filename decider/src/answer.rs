@@ -1,9 +1,10 @@
 //! The answer to a whole check sheet.
 
 use crate::limits::SHEET_BYTES;
-use crate::refusal::{Refusal, Refused};
+use crate::refusal::Refused;
 use crate::sheet::{Sheet, read_sheet};
 use crate::{all_assignments, closure};
+use judging::refusal::Refusal;
 
 pub const ACCEPTED: &[u8] = b"accepted\n";
 pub const REJECTED: &[u8] = b"rejected\n";

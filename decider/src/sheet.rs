@@ -2,11 +2,12 @@
 
 use crate::limits::{INSTRUCTIONS, LAST_VARIABLE, REGISTERS, STEPS};
 use crate::lines::{Line, read_line};
-use crate::refusal::{Refusal, Refused};
+use crate::refusal::Refused;
 use Form::{Value, Variable};
 use Instruction::{Get, Put, Set, Unify};
 use Place::{Register, Slot};
 use StepLine::{Call, DeepGoal, DeepHead, Goal, Head};
+use judging::refusal::Refusal;
 
 #[derive(Debug, Clone, Copy, PartialEq, Eq)]
 pub enum StepLine {

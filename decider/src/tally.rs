@@ -2,9 +2,11 @@
 
 use crate::answer::{ACCEPTED, answer};
 use crate::limits::SHEET_BYTES;
-use crate::refusal::Refusal;
+use crate::refusal::REFUSALS;
 use crate::sheet::{Sheet, read_sheet};
 use crate::{all_assignments, closure, substitution};
+use judging::refusal::Refusal;
+use judging::words::Words;
 use std::collections::BTreeMap;
 use std::fmt::{self, Display, Formatter};
 
@@ -15,7 +17,7 @@ pub struct Answers {
     rejected: usize,
     /// By refusal number.
     refused: BTreeMap<usize, usize>,
-    given: BTreeMap<String, usize>,
+    given: Words,
 }
 
 impl Answers {
@@ -28,15 +30,8 @@ impl Answers {
                     _ => &mut self.rejected,
                 };
                 *count += 1;
-                self.count_words(&String::from_utf8_lossy(sheet));
+                self.given.count(&String::from_utf8_lossy(sheet));
             }
-        }
-    }
-
-    fn count_words(&mut self, sheet: &str) {
-        for line in sheet.lines() {
-            let word = line.split('\t').next().unwrap_or_default();
-            *self.given.entry(word.to_string()).or_default() += 1;
         }
     }
 }
@@ -45,14 +40,11 @@ impl Display for Answers {
     fn fmt(&self, formatter: &mut Formatter<'_>) -> fmt::Result {
         writeln!(formatter, "accepted\t{}", self.accepted)?;
         writeln!(formatter, "rejected\t{}", self.rejected)?;
-        for number in Refusal::ALL.map(Refusal::number) {
+        for number in REFUSALS.map(Refusal::number) {
             let count = self.refused.get(&number).unwrap_or(&0);
             writeln!(formatter, "refused\t{number}\t{count}")?;
         }
-        for (word, count) in &self.given {
-            writeln!(formatter, "given\t{word}\t{count}")?;
-        }
-        Ok(())
+        self.given.write(formatter, "given")
     }
 }
 

@@ -7,13 +7,13 @@ use crate::forms::BranchNumber;
 use crate::limits::{COUNTS, FREED_REGISTERS, FREED_SLOTS, OPEN_BRANCHES};
 use crate::parser::ast::{RegType, Term, VarPtr, VarReg};
 use crate::print::Printed;
-use crate::refusal::Refusal;
 use crate::sheet::{Branching, Event, Mark, Record, Subject, Target};
 use crate::stop::{self, Stop};
 use crate::targets::{CompilationTarget, FactInstruction, QueryInstruction};
 use crate::variable_records::{
     PermVarAllocation, TempVarData, VarAlloc, VarSafetyStatus, VariableRecord,
 };
+use judging::refusal::Refusal;
 use std::cell::Cell;
 
 pub(crate) struct Clause {

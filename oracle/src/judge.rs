@@ -3,8 +3,8 @@
 use crate::allocator::Allocator;
 use crate::clause::Clause;
 use crate::limits::{ARGUMENT_COUNTER, SHEET_BYTES, VARIABLES};
-use crate::refusal::Refusal;
 use crate::sheet::{Event, Line, Record, read_line};
+use judging::refusal::Refusal;
 use std::fmt::{Arguments, Write};
 
 /// What a sheet earns when no line is refused.

@@ -12,12 +12,9 @@ mod sizes;
 mod state;
 mod stop;
 
-pub mod frames;
 pub mod judge;
 pub mod limits;
 pub mod plain;
-pub mod program;
-pub mod refusal;
 pub mod tally;
 
 // The original's files look for these modules at the root of the crate.

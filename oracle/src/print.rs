@@ -3,7 +3,7 @@
 use crate::instructions::{CodeDeque, Instruction};
 use crate::limits::{REGISTERS, SLOTS};
 use crate::parser::ast::{RegType, VarReg};
-use crate::refusal::Refusal;
+use judging::refusal::Refusal;
 use std::cell::Cell;
 use std::fmt::{self, Display, Formatter};
 

@@ -2,8 +2,8 @@
 
 use crate::forms::{GenContext, Level};
 use crate::limits::{ARGUMENTS, CELLS, CHUNKS, CLOSE_VARIABLES, COUNTS, REGISTERS, USES};
-use crate::refusal::Refusal;
 use crate::sheet::{Branching, Event, Mark, Record, Subject};
+use judging::refusal::Refusal;
 
 impl Record {
     /// Tests the record's numbers against their sizes, then the length of its use list.

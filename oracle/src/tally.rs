@@ -1,11 +1,9 @@
 //! Counts over many sheets: what was accepted, what was refused, which words occurred.
 
 use crate::judge::{Accepted, Refused};
-use crate::refusal::Refusal;
-use std::collections::BTreeMap;
+use judging::refusal::Refusal;
+use judging::words::Words;
 use std::fmt::{self, Display, Formatter};
-
-type Words = BTreeMap<String, u64>;
 
 #[derive(Default)]
 pub struct Tally {
@@ -23,22 +21,10 @@ impl Tally {
         match verdict {
             Ok(accepted) => {
                 self.accepted += 1;
-                count_words(&mut self.given, &String::from_utf8_lossy(sheet));
-                count_words(&mut self.printed, accepted.answer());
+                self.given.count(&String::from_utf8_lossy(sheet));
+                self.printed.count(accepted.answer());
             }
             Err(refused) => self.refused[refused.refusal.number()] += 1,
-        }
-    }
-}
-
-fn count_words(words: &mut Words, text: &str) {
-    for line in text.lines() {
-        let word = line.split('\t').next().unwrap_or_default();
-        match words.get_mut(word) {
-            Some(count) => *count += 1,
-            None => {
-                words.insert(word.to_string(), 1);
-            }
         }
     }
 }
@@ -49,11 +35,7 @@ impl Display for Tally {
         for (number, count) in self.refused.iter().enumerate().skip(1) {
             writeln!(formatter, "refused\t{number}\t{count}")?;
         }
-        for (label, words) in [("given", &self.given), ("printed", &self.printed)] {
-            for (word, count) in words {
-                writeln!(formatter, "{label}\t{word}\t{count}")?;
-            }
-        }
-        Ok(())
+        self.given.write(formatter, "given")?;
+        self.printed.write(formatter, "printed")
     }
 }

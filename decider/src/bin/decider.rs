@@ -1,10 +1,10 @@
 //! Answers check sheets from standard input.
 
 use decider::answer::reply;
-use decider::frames::read_frame;
 use decider::limits::SHEET_BYTES;
-use decider::program;
 use decider::tally::{Agreement, Answers};
+use judging::frames::read_frame;
+use judging::program;
 use std::io::{self, BufRead, BufWriter, Write};
 use std::process::ExitCode;
 

@@ -1,9 +1,9 @@
 //! Answers event sheets from standard input as the original Rust decides them.
 
-use oracle::frames::{read_frame, write_frame};
+use judging::frames::{read_frame, write_frame};
+use judging::program;
 use oracle::judge::judge;
 use oracle::limits::SHEET_BYTES;
-use oracle::program;
 use oracle::tally::Tally;
 use std::io::{self, BufRead, BufWriter, Write};
 use std::process::ExitCode;

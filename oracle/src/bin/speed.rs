@@ -1,8 +1,9 @@
 //! Answers the event sheets of a file again and again, and prints what hosts/speed.c prints of the library.
 
-use oracle::frames::read_frame;
+use judging::frames::read_frame;
+use judging::program;
 use oracle::judge::judge;
-use oracle::{plain, program};
+use oracle::plain;
 use std::ffi::{c_int, c_long};
 use std::fs::File;
 use std::hint::black_box;

@@ -3,9 +3,9 @@
 //! A variable of more than one chunk lives in a slot, every other one in registers. The head
 //! and the first goal are one chunk.
 
-use crate::random::Random;
 use crate::shuffle::shuffle;
 use crate::text::{Place, Step, call, deep, moving, register, shallow, slot, subterm};
+use judging::random::Random;
 use std::collections::BTreeMap;
 
 /// Registers are chosen up to this one, unless a term has more arguments.

@@ -3,8 +3,8 @@
 // All edits have one type, whether they change the count of steps or not.
 #![allow(clippy::ptr_arg)]
 
-use crate::random::Random;
 use crate::text::{Instruction, Step, register, slot};
+use judging::random::Random;
 
 /// Makes so many edits as are drawn, mostly one.
 pub fn edit(random: &mut Random, mut steps: Vec<Step>) -> Vec<Step> {

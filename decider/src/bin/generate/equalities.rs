@@ -1,8 +1,8 @@
 //! Sheets dense in equalities: many steps for few variables, compared in any order.
 
-use crate::random::Random;
 use crate::shuffle::shuffle;
 use crate::text::{Instruction, Place, Step, call, deep, moving, register, shallow, slot, subterm};
+use judging::random::Random;
 
 /// Instructions of a step; one place is left for the step's own.
 const MOST_COMPARISONS: usize = 3;

@@ -1,11 +1,11 @@
 //! Sheets that come to a limit: just below it, at it, or one past it.
 
 use crate::clauses::{clause, small_clause};
-use crate::random::Random;
 use crate::text::{
     Instruction, Place, Step, call, deep, moving, register, shallow, slot, subterm, text,
 };
 use decider::limits::{INSTRUCTIONS, SHEET_BYTES, STEPS};
+use judging::random::Random;
 
 pub fn at_a_limit(random: &mut Random) -> Vec<u8> {
     let write = random.weighted(&LIMITS);

@@ -5,16 +5,12 @@ mod damage;
 mod edits;
 mod equalities;
 mod limits;
-#[path = "../../../../oracle/src/bin/generate/random.rs"]
-mod random;
 mod shuffle;
 mod small;
 mod text;
 
-use decider::frames::write_frame;
-use decider::program;
-use random::Random;
-use std::io::{self, BufWriter, Write};
+use judging::generator::{self, Kinds, WriteSheet};
+use judging::random::Random;
 use std::process::ExitCode;
 use text::text;
 
@@ -23,8 +19,6 @@ const USAGE: &str = "generate --seed S --count N [--kind KIND]";
 /// Every kind as often as its weight says; the small kinds only; one kind.
 const MIXED: &str = "mixed";
 const FEW_NAMES: &str = "few_names";
-
-type WriteSheet = fn(&mut Random) -> Vec<u8>;
 
 struct Kind {
     name: &'static str,
@@ -107,47 +101,22 @@ fn small_edited(random: &mut Random) -> Vec<u8> {
     text(&edits::edit(random, steps))
 }
 
-struct Options {
-    seed: u64,
-    count: usize,
-    kinds: Vec<(usize, WriteSheet)>,
-}
-
-fn read_options(words: &[&str]) -> Option<Options> {
-    let (seed, count, kind) = match *words {
-        ["--seed", seed, "--count", count] => (seed, count, MIXED),
-        ["--seed", seed, "--count", count, "--kind", kind] => (seed, count, kind),
+fn named_kinds(words: &[&str]) -> Option<Kinds> {
+    let name = match words {
+        [] => MIXED,
+        ["--kind", name] => name,
         _ => return None,
     };
-    let kinds = kinds(kind);
-    (!kinds.is_empty()).then_some(Options {
-        seed: seed.parse().ok()?,
-        count: count.parse().ok()?,
-        kinds,
-    })
-}
-
-fn kinds(wanted: &str) -> Vec<(usize, WriteSheet)> {
-    let weight = |kind: &Kind| match wanted {
+    let weight = |kind: &Kind| match name {
         MIXED => kind.mixed,
         FEW_NAMES => kind.few_names,
         name => usize::from(name == kind.name),
     };
     let weighted = KINDS.iter().map(|kind| (weight(kind), kind.write));
-    weighted.filter(|(weight, _)| *weight > 0).collect()
-}
-
-fn run(options: &Options) -> io::Result<ExitCode> {
-    let mut random = Random::new(options.seed);
-    let mut output = BufWriter::new(io::stdout().lock());
-    for _ in 0..options.count {
-        let write = random.weighted(&options.kinds);
-        write_frame(&mut output, &write(&mut random))?;
-    }
-    output.flush()?;
-    Ok(ExitCode::SUCCESS)
+    let kinds: Kinds = weighted.filter(|(weight, _)| *weight > 0).collect();
+    (!kinds.is_empty()).then_some(kinds)
 }
 
 fn main() -> ExitCode {
-    program::run(USAGE, read_options, run)
+    generator::run(USAGE, named_kinds)
 }

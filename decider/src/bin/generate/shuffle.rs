@@ -1,6 +1,6 @@
 //! A random order.
 
-use crate::random::Random;
+use judging::random::Random;
 
 pub fn shuffle<Item>(random: &mut Random, items: &mut [Item]) {
     for last in (1..items.len()).rev() {

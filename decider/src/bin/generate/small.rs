@@ -1,8 +1,8 @@
 //! Small sheets of any lines that are in order: few registers, slots, variables and steps.
 
-use crate::random::Random;
 use crate::shuffle::shuffle;
 use crate::text::{Instruction, Place, Step, call, deep, moving, register, shallow, slot, subterm};
+use judging::random::Random;
 
 const HEAD_INSTRUCTIONS: [(usize, &str); 4] = [
     (2, "get_variable"),

@@ -1,7 +1,7 @@
 //! Sheets as a compiler would make them: a head, goals in chunks, branches, cuts, a tail.
 
-use crate::random::Random;
 use crate::text::{Sheet, uses};
+use judging::random::Random;
 use oracle::limits::USES;
 use std::collections::BTreeSet;
 

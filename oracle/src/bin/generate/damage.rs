@@ -1,9 +1,13 @@
 //! Good sheets that are then spoiled in one or two places.
 
 use crate::clauses::clause;
-use crate::random::Random;
 use crate::wild::wild;
-use Damage::{Change, Insert, Other};
+use judging::damage::Damage::{self, Change, Insert, Other};
+use judging::damage::{
+    any, cut_end, damage, flip_bit, is_line_end, is_tab, raise_letter, remove_byte,
+    remove_last_byte,
+};
+use judging::random::Random;
 use std::ops::Range;
 
 pub fn damaged(random: &mut Random) -> Vec<u8> {
@@ -13,29 +17,9 @@ pub fn damaged(random: &mut Random) -> Vec<u8> {
         wild(random)
     };
     let mut bytes = sheet.into_bytes();
-    for _ in 0..random.between(1, 2) {
-        match random.weighted(&DAMAGES) {
-            Change(test, make) => change(random, &mut bytes, test, make),
-            Insert(test, make) => insert(random, &mut bytes, test, make),
-            Other(damage) => damage(random, &mut bytes),
-        }
-    }
+    damage(random, &mut bytes, &DAMAGES);
     bytes
 }
-
-#[derive(Clone, Copy)]
-enum Damage {
-    /// A byte that satisfies the test becomes another.
-    Change(Test, Make),
-    /// A byte comes in before one that satisfies the test.
-    Insert(Test, Make),
-    Other(fn(&mut Random, &mut Vec<u8>)),
-}
-
-type Test = fn(&u8) -> bool;
-
-/// Makes a byte, perhaps from the one that stands there.
-type Make = fn(&mut Random, u8) -> u8;
 
 const DAMAGES: [(usize, Damage); 15] = [
     (2, Change(any, flip_bit)),
@@ -58,63 +42,8 @@ const DAMAGES: [(usize, Damage); 15] = [
 /// Bytes that sheets are made of, and a few that they are not.
 const ALPHABET: &[u8] = b"\t\t\n\n0123456789-:,hmlfqrsdtempvarx \r\0A\x80\xFF";
 
-fn any(_: &u8) -> bool {
-    true
-}
-
-fn is_tab(byte: &u8) -> bool {
-    *byte == b'\t'
-}
-
-fn is_line_end(byte: &u8) -> bool {
-    *byte == b'\n'
-}
-
-fn flip_bit(random: &mut Random, byte: u8) -> u8 {
-    byte ^ (1 << random.below(8))
-}
-
 fn draw_byte(random: &mut Random, _: u8) -> u8 {
     random.pick(ALPHABET)
-}
-
-fn raise_letter(_: &mut Random, byte: u8) -> u8 {
-    byte.to_ascii_uppercase()
-}
-
-/// Where a byte satisfies the test, if it does anywhere.
-fn position(random: &mut Random, bytes: &[u8], test: Test) -> Option<usize> {
-    let positions: Vec<usize> = (0..bytes.len()).filter(|at| test(&bytes[*at])).collect();
-    random.pick_any(&positions)
-}
-
-fn change(random: &mut Random, bytes: &mut [u8], test: Test, make: Make) {
-    if let Some(at) = position(random, bytes, test) {
-        bytes[at] = make(random, bytes[at]);
-    }
-}
-
-fn insert(random: &mut Random, bytes: &mut Vec<u8>, test: Test, make: Make) {
-    if let Some(at) = position(random, bytes, test) {
-        let made = make(random, bytes[at]);
-        bytes.insert(at, made);
-    }
-}
-
-fn remove_byte(random: &mut Random, bytes: &mut Vec<u8>) {
-    if let Some(at) = position(random, bytes, any) {
-        bytes.remove(at);
-    }
-}
-
-fn cut_end(random: &mut Random, bytes: &mut Vec<u8>) {
-    let length = random.between(0, bytes.len());
-    bytes.truncate(length);
-}
-
-/// A sheet loses its last LF.
-fn remove_last_byte(_: &mut Random, bytes: &mut Vec<u8>) {
-    bytes.pop();
 }
 
 /// Where a line stands; past the last one stands an empty one.

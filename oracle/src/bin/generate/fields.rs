@@ -1,6 +1,6 @@
 //! Fields that several kinds of sheet draw.
 
-use crate::random::Random;
+use judging::random::Random;
 
 pub fn target(random: &mut Random) -> char {
     random.pick(&['f', 'q'])

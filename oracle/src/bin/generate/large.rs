@@ -1,7 +1,7 @@
 //! Sheets, and answers, about as long as they may be.
 
-use crate::random::Random;
 use crate::text::Sheet;
+use judging::random::Random;
 use oracle::limits::SHEET_BYTES;
 
 /// Lines on the variables that `answer` binds, and how many bytes each prints.

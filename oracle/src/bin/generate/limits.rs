@@ -1,8 +1,8 @@
 //! Sheets that come to a limit: just below it, at it, or one past it.
 
 use crate::fields::{context, level, target};
-use crate::random::Random;
 use crate::text::{self, Sheet};
+use judging::random::Random;
 use oracle::limits::{
     ARGUMENT_COUNTER, ARGUMENTS, CELLS, CHUNKS, CLOSE_VARIABLES, COUNTS, FREED_REGISTERS,
     FREED_SLOTS, OPEN_BRANCHES, REGISTERS, SLOTS, USES, VARIABLES,

@@ -1,7 +1,7 @@
 //! Empty sheets and sheets of one line.
 
-use crate::random::Random;
 use crate::text::Sheet;
+use judging::random::Random;
 
 const LINES: [&str; 34] = [
     "temp h 0 -",

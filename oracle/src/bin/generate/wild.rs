@@ -3,8 +3,8 @@
 //! A careful sheet heeds what would make the original stop; a reckless one does not.
 
 use crate::fields::{context, level, target};
-use crate::random::Random;
 use crate::text::{Sheet, uses};
+use judging::random::Random;
 use oracle::limits::{ARGUMENT_COUNTER, ARGUMENTS, OPEN_BRANCHES, REGISTERS};
 
 const LAST_CHUNK: usize = 3;

@@ -1,26 +1,31 @@
-//! Runs a program on the sheets of case files and compares what it prints.
+//! Runs a program on the sheets of case files and compares what it prints, or writes the sheets.
 //!
-//! README.md gives the notation of the files. The program is any that takes the option
-//! `--room` as `decider` does.
+//! README.md gives the notation of the files. The program is any that takes the option `--room`, and where a case asks
+//! for the final state `--state`, as the judges do.
 
-use decider::frames::write_frame;
-use decider::program;
+use judging::frames::write_frame;
+use judging::notation::expand;
+use judging::program;
 use std::fs;
 use std::io::{self, ErrorKind, Write};
 use std::process::{Command, ExitCode, Stdio};
 
 const USAGE: &str = "cases PROGRAM FILE... | cases --sheets FILE...";
 
-/// In a repeated line, stands for the number of the repeat, from 0.
-const REPEAT_NUMBER: &str = "#";
-
 struct Case {
-    file: String,
-    /// The number of the case's first line in its file.
-    line: usize,
+    /// Where the case stands, and its text.
+    title: String,
     room: Option<String>,
     sheet: String,
-    answer: String,
+    answer: Answer,
+    /// Lines that the final state must hold.
+    state: Vec<String>,
+}
+
+enum Answer {
+    Whole(String),
+    /// Only how the answer ends.
+    Ending(String),
 }
 
 struct Options {
@@ -42,15 +47,14 @@ fn read_options(words: &[&str]) -> Option<Options> {
 }
 
 fn read_file(file: &str) -> io::Result<Vec<Case>> {
-    let text = fs::read_to_string(file)?;
     let no_case = |line, case: &str| io::Error::other(format!("{file}:{line}: no case: {case}"));
-    whole_cases(&text)
+    whole_cases(&fs::read_to_string(file)?)
         .into_iter()
         .map(|(line, case)| read_case(file, line, &case).ok_or_else(|| no_case(line, &case)))
         .collect()
 }
 
-/// The cases with their first lines. A line that begins with a space goes on with the case.
+/// The cases with the numbers of their first lines. A line that begins with a space goes on with the case before it.
 fn whole_cases(text: &str) -> Vec<(usize, String)> {
     let mut cases: Vec<(usize, String)> = Vec::new();
     for (line, number) in text.lines().zip(1..) {
@@ -67,7 +71,7 @@ fn whole_cases(text: &str) -> Vec<(usize, String)> {
 }
 
 fn read_case(file: &str, line: usize, text: &str) -> Option<Case> {
-    let (given, answer) = text.split_once("=>")?;
+    let (given, wanted) = text.split_once("=>")?;
     let (room, sheet) = match given.strip_prefix("room ") {
         Some(rest) => {
             let (room, sheet) = rest.split_once(':')?;
@@ -75,62 +79,27 @@ fn read_case(file: &str, line: usize, text: &str) -> Option<Case> {
         }
         None => (None, given),
     };
+    let (answer, state) = wanted.split_once('&').unwrap_or((wanted, ""));
+    let answer = match answer.trim().strip_prefix("...") {
+        Some(ending) => Answer::Ending(expand(ending)),
+        None => Answer::Whole(expand(answer)),
+    };
     Some(Case {
-        file: file.to_string(),
-        line,
+        title: format!("{file}:{line}: {text}"),
         room,
         sheet: expand(sheet),
-        answer: expand(answer),
+        answer,
+        state: expand(state).lines().map(str::to_string).collect(),
     })
-}
-
-/// Turns the notation into text: ` / ` parts lines and a space parts fields.
-fn expand(notation: &str) -> String {
-    let notation = notation.trim();
-    let (lines, unfinished) = match notation.strip_suffix("\\!") {
-        Some(lines) => (lines, true),
-        None => (notation, false),
-    };
-    if lines.is_empty() {
-        return String::new();
-    }
-    let mut text: String = lines.split(" / ").map(expand_line).collect();
-    if unfinished {
-        text.pop();
-    }
-    text
-}
-
-fn expand_line(line: &str) -> String {
-    match repeat(line) {
-        Some((line, count)) => (0..count)
-            .map(|number| expand_line(&line.replace(REPEAT_NUMBER, &number.to_string())))
-            .collect(),
-        None => {
-            let fields: Vec<String> = line.split(' ').map(expand_field).collect();
-            fields.join("\t") + "\n"
-        }
-    }
-}
-
-/// The line before the sign of repetition, and the count after it.
-fn repeat(line: &str) -> Option<(&str, usize)> {
-    let (repeated, count) = line.rsplit_once(" *")?;
-    Some((repeated, count.parse().ok()?))
-}
-
-fn expand_field(field: &str) -> String {
-    field
-        .replace("\\e", "")
-        .replace("\\s", " ")
-        .replace("\\r", "\r")
-        .replace("\\0", "\0")
 }
 
 fn run_program(program: &str, case: &Case) -> io::Result<String> {
     let mut command = Command::new(program);
     if let Some(room) = &case.room {
         command.args(["--room", room]);
+    }
+    if !case.state.is_empty() {
+        command.arg("--state");
     }
     let mut child = command
         .stdin(Stdio::piped())
@@ -147,14 +116,30 @@ fn run_program(program: &str, case: &Case) -> io::Result<String> {
     Ok(String::from_utf8_lossy(&printed).into_owned())
 }
 
-/// Whether the program prints the answer; if not, shows what it prints.
+fn is_wanted(case: &Case, printed: &str) -> bool {
+    match &case.answer {
+        Answer::Ending(ending) => printed.ends_with(ending),
+        Answer::Whole(answer) => printed
+            .strip_prefix(answer.as_str())
+            .is_some_and(|state| is_wanted_state(case, state)),
+    }
+}
+
+/// The state is printed only when the case asks for lines of it.
+fn is_wanted_state(case: &Case, printed: &str) -> bool {
+    let holds = |wanted: &String| printed.lines().any(|line| line == wanted);
+    match case.state[..] {
+        [] => printed.is_empty(),
+        _ => case.state.iter().all(holds),
+    }
+}
+
+/// Whether the program prints what the case wants; if not, shows what it prints.
 fn passes(program: &str, case: &Case) -> io::Result<bool> {
     let printed = run_program(program, case)?;
-    let passes = printed == case.answer;
+    let passes = is_wanted(case, &printed);
     if !passes {
-        let Case { file, line, .. } = case;
-        let (wanted, printed) = (case.answer.trim_end(), printed.trim_end());
-        println!("{file}:{line}: wanted {wanted:?}, printed {printed:?}");
+        println!("{}\nprinted:\n{printed}", case.title);
     }
     Ok(passes)
 }
@@ -169,8 +154,7 @@ fn run_cases(program: &str, cases: &[Case]) -> io::Result<ExitCode> {
     Ok(ExitCode::from(u8::from(failed > 0)))
 }
 
-/// Writes the sheets as frames. Frames have no room of their own, so cases with one are
-/// left out.
+/// Writes the sheets as frames. Frames have no room of their own, so cases with one are left out.
 fn write_sheets(cases: &[Case]) -> io::Result<ExitCode> {
     let mut output = io::stdout().lock();
     for case in cases.iter().filter(|case| case.room.is_none()) {

@@ -1,4 +1,4 @@
-//! The refusals of document 01.
+//! The refusals of document 01, by name.
 
 /// Why a line, or a whole sheet, is refused; the value is the printed number.
 #[derive(Debug, Clone, Copy, PartialEq, Eq)]
