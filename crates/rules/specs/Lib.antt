@@ -7,3 +7,7 @@ pub mod CutLaws
 pub mod QueueLaws
 pub mod LineLaws
 pub mod RulesEasilyMissed
+pub mod InstructionsMade
+pub mod MadeLaws
+pub mod MarksMadeLaws
+pub mod NothingLeftOut
