@@ -196,7 +196,7 @@ unfolding refusedWith
 said-valid s full valid Malformed list = (full, valid)
 said-valid s full valid (Says event count) list = (lengths-stay s full valid event list, valid-stays s full valid event list)
 
-line-valid :
+pub line-valid :
     (s : State) → Full s → isValid s ≡ true → (line : List ℕ)
     → (Full (lineAnswer s line .state)) × (isValid (lineAnswer s line .state) ≡ true)
 unfolding lineAnswer

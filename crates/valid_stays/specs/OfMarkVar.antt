@@ -146,7 +146,7 @@ module _ (k : Kinds) (s : Sets) (fit : Uses k (s .useSets) (s .useCounts)) where
       shallow-valid chunk code =
           after-evacuation-valid (evacuated c records mappings s chunk code) (evacuated-valid k s fit h chunk code)
 
-      register-placed-valid :
+      pub register-placed-valid :
           (level : Level) (context : GenContext) (code : CodeDeque)
           → RegisterValid k queue freed rows sets (registerPlaced c records mappings s v level context code)
       register-placed-valid Root context code = apart-valid code

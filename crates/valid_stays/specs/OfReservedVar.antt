@@ -131,7 +131,7 @@ module _ (k : Kinds) {c : Counters} {records mappings queue freed rows sets : Li
 
 module _ (k : Kinds) (s : Sets) (fit : Uses k (s .useSets) (s .useCounts)) (v : ℕ) (known : v < k .count) where
   module _ {c : Counters} {records mappings queue freed rows sets : List ℕ} (h : Valid k c records mappings queue freed rows sets) where
-    others-out-valid : (chunk : ℕ) (code : CodeDeque) → EvacuationValid k queue freed rows sets (othersOut c records mappings s v chunk code)
+    pub others-out-valid : (chunk : ℕ) (code : CodeDeque) → EvacuationValid k queue freed rows sets (othersOut c records mappings s v chunk code)
     unfolding othersOut
     others-out-valid chunk code =
         let Fits = EvacuationValid k queue freed rows sets in

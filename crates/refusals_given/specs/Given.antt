@@ -1,0 +1,31 @@
+-- Which refusals a line of an event sheet can be given, by what it says.
+use Prim.Native.Nat.{ℕ}
+use mathlib.Core.List.{List, [], _∷_}
+use Rattle.refusals.specs.Refusals.{refusedOrder, refusedSize, refusedStop, refusedRegister, refusedSlot, refusedFull}
+use Rattle.events.specs.declared.Event.{Event}
+use Rattle.events.specs.declared.Event.the-variants.{Temp, Perm, Sets, Head, Args, Var, Anon, NonVar, Cut, Incr, Free, Safe, Give, Tail, Next, Open, Arm, Take, Close, Reset, Contents, ClearFree}
+
+-- a line whose form is right; 8 is in no row
+abbrev pub refusalsOf : Event → List ℕ
+refusalsOf (Temp context occurrences) = refusedOrder ∷ (refusedSize ∷ (refusedFull ∷ []))
+refusalsOf (Perm occurrences) = refusedOrder ∷ (refusedSize ∷ (refusedFull ∷ []))
+refusalsOf Sets = []
+refusalsOf Head = refusedSize ∷ (refusedFull ∷ [])
+refusalsOf (Args count) = refusedSize ∷ []
+refusalsOf (Var target level context v) = refusedSize ∷ (refusedStop ∷ (refusedRegister ∷ (refusedSlot ∷ (refusedFull ∷ []))))
+refusalsOf (Anon target level context) = refusedSize ∷ (refusedRegister ∷ (refusedFull ∷ []))
+refusalsOf (NonVar level context cell) = refusedSize ∷ (refusedRegister ∷ (refusedFull ∷ []))
+refusalsOf (Cut v chunk) = refusedSize ∷ (refusedRegister ∷ (refusedSlot ∷ []))
+refusalsOf (Incr v) = refusedSize ∷ (refusedFull ∷ [])
+refusalsOf (Free chunk v) = refusedSize ∷ (refusedFull ∷ [])
+refusalsOf (Safe v) = refusedSize ∷ (refusedStop ∷ [])
+refusalsOf (Give r) = refusedSize ∷ (refusedFull ∷ [])
+refusalsOf (Tail tail) = refusedSize ∷ []
+refusalsOf Next = refusedFull ∷ []
+refusalsOf (Open start span arms) = refusedSize ∷ (refusedFull ∷ [])
+refusalsOf (Arm start span) = refusedStop ∷ (refusedFull ∷ [])
+refusalsOf Take = refusedStop ∷ []
+refusalsOf (Close depth) = refusedSize ∷ (refusedStop ∷ (refusedFull ∷ []))
+refusalsOf Reset = []
+refusalsOf Contents = []
+refusalsOf ClearFree = []

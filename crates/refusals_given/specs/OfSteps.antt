@@ -1,0 +1,129 @@
+-- In a valid state each line is given what its row says.
+use Prim.Native.Nat.{ℕ}
+use mathlib.Core.Path.{_≡_}
+use mathlib.Core.Bool.{true, false, true≢false, false≢true}
+use mathlib.Core.List.{List, _∷_}
+use native.Mathlib.Omega.{arith}
+use lib.Dec.{ltb}
+use borrow.Author.Tests.{ltb-true, ltb-false}
+use Rattle.notation.specs.ChoiceLaws.{both-true}
+use Rattle.refusals.specs.Refusals.{accepted}
+use Rattle.clause_records.specs.ClauseRecords.{Rows, rows}
+use Rattle.events.specs.declared.Event.{Event}
+use Rattle.events.specs.declared.Event.the-variants.{Temp, Perm, Sets, Head, Args, Var, Anon, NonVar, Cut, Incr, Free, Safe, Give, Tail, Next, Open, Arm, Take, Close, Reset, Contents, ClearFree}
+use Rattle.events.specs.Events.{contextFits, inSize, isRecord, refusalBefore}
+use Rattle.allocator_state.specs.declared.Counters.{Counters}
+use Rattle.debray_allocator.specs.declared.State.{State}
+use Rattle.debray_allocator.specs.declared.Acted.{Acted}
+use Rattle.debray_allocator.specs.declared.Answer.{Answer}
+use Rattle.debray_allocator.specs.DebrayAllocator.{setsOf, carriedOut, seenAfter, seenIn, refusedWith, acted, unlessRefused, stepped}
+use Rattle.invariants.specs.Lists.{All, either, by-test}
+use Rattle.invariants.specs.OfEvents.{unrefused-in-size}
+use Rattle.valid_stays.specs.Fits.{Kinds, StateFits}
+use Rattle.refusals_given.specs.Given.{refusalsOf}
+use Rattle.refusals_given.specs.OfMarkVar.{var-marked-given, freed-given}
+use Rattle.refusals_given.specs.OfOtherMarks.{anon-marked-given, non-var-marked-given, cut-marked-given}
+use Rattle.refusals_given.specs.OfEvents.{before-given, perm-recorded-given, temp-recorded-given, give-given, incremented-given, open-given, arm-given, safe-given, close-given, take-given}
+
+-- P holds of 0 and of a row
+abbrev pub Row : (ℕ → Type 0) → Event → Type 0
+Row P event = All P (accepted ∷ refusalsOf event)
+
+-- a test that is never met, and one that always is
+never : {A : Type 0} → false ≡ true → A
+never e = absurd (false≢true e)
+
+always : {A : Type 0} → true ≡ false → A
+always e = absurd (true≢false e)
+
+module _ (P : ℕ → Type 0) (s : State) where
+  abbrev c : Counters
+  c = s .counters
+
+  before : (event : Event) (list : List ℕ) → Row P event → P (refusalBefore c event list)
+  before (Temp context occurrences) list (none, (order, (size, (full, end)))) =
+      before-given P none c (Temp context occurrences) list (λ e. order) (λ e. size) (λ e. full)
+  before (Perm occurrences) list (none, (order, (size, (full, end)))) =
+      before-given P none c (Perm occurrences) list (λ e. order) (λ e. size) (λ e. full)
+  before Sets list (none, end) = before-given P none c Sets list never always never
+  before Head list (none, (size, (full, end))) = before-given P none c Head list never (λ e. size) (λ e. full)
+  before (Args count) list (none, (size, end)) = before-given P none c (Args count) list never (λ e. size) never
+  before (Var target level context v) list (none, (size, (stop, (register, (slot, (full, end)))))) =
+      before-given P none c (Var target level context v) list never (λ e. size) (λ e. full)
+  before (Anon target level context) list (none, (size, (register, (full, end)))) =
+      before-given P none c (Anon target level context) list never (λ e. size) (λ e. full)
+  before (NonVar level context cell) list (none, (size, (register, (full, end)))) =
+      before-given P none c (NonVar level context cell) list never (λ e. size) (λ e. full)
+  before (Cut v chunk) list (none, (size, more)) = before-given P none c (Cut v chunk) list never (λ e. size) never
+  before (Incr v) list (none, (size, more)) = before-given P none c (Incr v) list never (λ e. size) never
+  before (Free chunk v) list (none, (size, more)) = before-given P none c (Free chunk v) list never (λ e. size) never
+  before (Safe v) list (none, (size, more)) = before-given P none c (Safe v) list never (λ e. size) never
+  before (Give r) list (none, (size, more)) = before-given P none c (Give r) list never (λ e. size) never
+  before (Tail tail) list (none, (size, end)) = before-given P none c (Tail tail) list never (λ e. size) never
+  before Next list (none, (full, end)) = before-given P none c Next list never always (λ e. full)
+  before (Open start span arms) list (none, (size, more)) = before-given P none c (Open start span arms) list never (λ e. size) never
+  before (Arm start span) list (none, more) = before-given P none c (Arm start span) list never always never
+  before Take list (none, more) = before-given P none c Take list never always never
+  before (Close depth) list (none, (size, (stop, (full, end)))) = before-given P none c (Close depth) list never (λ e. size) (λ e. full)
+  before Reset list (none, end) = before-given P none c Reset list never always never
+  before Contents list (none, end) = before-given P none c Contents list never always never
+  before ClearFree list (none, end) = before-given P none c ClearFree list never always never
+
+  module _ (k : Kinds) (fits : StateFits k s) where
+    abbrev tables : Rows
+    tables = rows (s .records) (s .«use_counts») (s .«no_use») (s .conflict)
+
+    carried : (event : Event) (list : List ℕ) → inSize (c .records) event list ≡ true → Row P event → P (carriedOut s event list .refusal)
+    carried (Temp context occurrences) list fit (none, (order, (size, (full, end)))) =
+        temp-recorded-given P none full c tables (s .«use_sets») context occurrences list
+    carried (Perm occurrences) list fit (none, (order, (size, (full, end)))) = perm-recorded-given P none full c tables occurrences
+    carried Sets list fit (none, end) = none
+    carried Head list fit (none, more) = none
+    carried (Args count) list fit (none, more) = none
+    carried (Var target level context v) list fit (none, (size, (stop, (register, (slot, (full, end)))))) =
+        let b = both-true (contextFits context) (ltb v (c .records)) fit in
+        var-marked-given P none stop register slot full k (setsOf s) (fits .uses)
+        (record { target = target; level = level; context = context; variable = v })
+        (omega (arith, ltb-true v (c .records) (b .1), fits .whole .counted .records)) (fits .whole)
+    carried (Anon target level context) list fit (none, (size, (register, (full, end)))) =
+        anon-marked-given P none register (s .records) (s .mappings) (setsOf s) (s .«freed_registers») target level context c
+    carried (NonVar level context cell) list fit (none, (size, (register, (full, end)))) =
+        non-var-marked-given P none register (s .records) (s .mappings) (setsOf s) (s .«freed_registers») level context cell c
+    carried (Cut v chunk) list fit (none, (size, (register, (slot, end)))) =
+        cut-marked-given P none register slot c (s .records) (s .«freed_slots») (s .«freed_registers») v chunk
+    carried (Incr v) list fit (none, (size, (full, end))) = incremented-given P none full (s .records) v
+    carried (Free chunk v) list fit (none, (size, (full, end))) = freed-given P none full c (s .records) (s .«freed_slots») chunk v
+    carried (Safe v) list fit (none, (size, (stop, end))) = safe-given P none stop (s .records) (s .«branch_rows») (c .«open_branches») v
+    carried (Give r) list fit (none, (size, (full, end))) = give-given P none full c (s .«freed_registers») r
+    carried (Tail tail) list fit (none, more) = none
+    carried Next list fit (none, more) = none
+    carried (Open start span arms) list fit (none, (size, (full, end))) =
+        open-given P none full c (s .«branch_rows») (s .«branch_sets») start span arms
+    carried (Arm start span) list fit (none, (stop, (full, end))) = arm-given P none full stop c (s .«branch_rows») (s .«branch_sets») start span
+    carried Take list fit (none, (stop, end)) = take-given P none stop k (fits .whole)
+    carried (Close depth) list fit (none, (size, (stop, more))) =
+        close-given P none stop c (s .records) (s .«branch_rows») (s .«branch_sets») depth list
+    carried Reset list fit (none, end) = none
+    carried Contents list fit (none, end) = none
+    carried ClearFree list fit (none, end) = none
+
+    abbrev AnswerGiven : Answer → Type 0
+    AnswerGiven a = P (a .refusal)
+
+    seen-given : (a : Answer) (event : Event) → AnswerGiven a → AnswerGiven (seenIn a event)
+    unfolding seenAfter
+    seen-given a event given = either (λ (acted : Acted). P (acted .refusal)) (isRecord event) given given
+
+    acted-given : (event : Event) (list : List ℕ) → Row P event → AnswerGiven (acted s event list)
+    unfolding acted refusedWith
+    acted-given event list row =
+        let refusal = refusalBefore c event list in
+        by-test AnswerGiven (ltb 0 refusal) (λ e. before event list row)
+        (λ e. seen-given (carriedOut s event list) event
+        (carried event list (unrefused-in-size c event list (ltb-false 0 refusal e)) row))
+
+    pub stepped-given : (event : Event) (list : List ℕ) → Row P event → P (stepped s event list .refusal)
+    unfolding stepped unlessRefused refusedWith
+    stepped-given event list row =
+        let a = acted s event list in
+        either AnswerGiven (ltb 0 (a .refusal)) (acted-given event list row) (acted-given event list row)
