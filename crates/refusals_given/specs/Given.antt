@@ -1,4 +1,4 @@
--- Which refusals a line of an event sheet can be given, by what it says.
+-- Which refusals a line of an event sheet can be given, by what it says, and which of them only while it is carried out.
 use Prim.Native.Nat.{ℕ}
 use mathlib.Core.List.{List, [], _∷_}
 use Rattle.refusals.specs.Refusals.{refusedOrder, refusedSize, refusedStop, refusedRegister, refusedSlot, refusedFull}
@@ -29,3 +29,28 @@ refusalsOf (Close depth) = refusedSize ∷ (refusedStop ∷ (refusedFull ∷ [])
 refusalsOf Reset = []
 refusalsOf Contents = []
 refusalsOf ClearFree = []
+
+-- by a line that nothing refused before
+abbrev pub carryingRefusals : Event → List ℕ
+carryingRefusals (Temp context occurrences) = refusedFull ∷ []
+carryingRefusals (Perm occurrences) = refusedFull ∷ []
+carryingRefusals Sets = []
+carryingRefusals Head = []
+carryingRefusals (Args count) = []
+carryingRefusals (Var target level context v) = refusedStop ∷ (refusedRegister ∷ (refusedSlot ∷ (refusedFull ∷ [])))
+carryingRefusals (Anon target level context) = refusedRegister ∷ []
+carryingRefusals (NonVar level context cell) = refusedRegister ∷ []
+carryingRefusals (Cut v chunk) = refusedRegister ∷ (refusedSlot ∷ [])
+carryingRefusals (Incr v) = refusedFull ∷ []
+carryingRefusals (Free chunk v) = refusedFull ∷ []
+carryingRefusals (Safe v) = refusedStop ∷ []
+carryingRefusals (Give r) = refusedFull ∷ []
+carryingRefusals (Tail tail) = []
+carryingRefusals Next = []
+carryingRefusals (Open start span arms) = refusedFull ∷ []
+carryingRefusals (Arm start span) = refusedStop ∷ (refusedFull ∷ [])
+carryingRefusals Take = refusedStop ∷ []
+carryingRefusals (Close depth) = refusedStop ∷ []
+carryingRefusals Reset = []
+carryingRefusals Contents = []
+carryingRefusals ClearFree = []

@@ -6,3 +6,5 @@ pub mod OfOtherMarks
 pub mod OfEvents
 pub mod OfSteps
 pub mod RefusalsGiven
+pub mod Exactly
+pub mod CarriedExactly

@@ -5,11 +5,10 @@ use mathlib.Core.Bool.{Bool, true, false, _&&_, _||_, false≢true}
 use mathlib.Core.List.{List, [], _∷_}
 use lib.Dec.{eqb, leb, ltb}
 use lib.ListN.{length}
-use Rattle.notation.specs.ChoiceLaws.{both-true}
 use Rattle.refusals.specs.Refusals.{accepted, refusedOrder, refusedSize, refusedStop, refusedFull}
-use Rattle.sizes.specs.Sizes.{variables, counts, freedRegisters, openBranches}
+use Rattle.sizes.specs.Sizes.{variables, counts, freedRegisters}
 use Rattle.forms.specs.declared.GenContext.{GenContext}
-use Rattle.variable_records.specs.Rows.{recordAt, isTemporary}
+use Rattle.variable_records.specs.Rows.{recordAt}
 use Rattle.branch_stack.specs.BranchStack.{currentBranch}
 use Rattle.allocator_state.specs.declared.Counters.{Counters}
 use Rattle.record_marks.specs.declared.MarkedSafe.{MarkedSafe}
@@ -25,8 +24,8 @@ use Rattle.branches.specs.declared.Advanced.the-variants.{NextArm, NoneToAdvanc
 use Rattle.branches.specs.declared.Taken.{Taken}
 use Rattle.branches.specs.declared.Popped.{Popped}
 use Rattle.branches.specs.declared.Popped.the-variants.{Left, TooDeep, ClosesTemporary, PastOuterArms}
-use Rattle.branches.specs.Branches.{topOf, opening, advanced, armRefusal, popped, namesTemporary, toTake, taken, takeRefusal}
-use Rattle.branch_events.specs.BranchEvents.{Stack, BranchStep, openReleased, opened, armed, stockTaken, closeReleased, closed}
+use Rattle.branches.specs.Branches.{opening, advanced, armRefusal, popped, namesTemporary, toTake, taken, takeRefusal}
+use Rattle.branch_events.specs.BranchEvents.{openReleased, opened, armed, stockTaken, closeReleased, closed}
 use Rattle.events.specs.declared.Event.{Event}
 use Rattle.events.specs.Events.{inSize, isFull, isRecord, refusalBySize, refusalBefore}
 use Rattle.invariants.specs.Lists.{All, either, by-test}
@@ -38,14 +37,13 @@ module _ (P : ℕ → Type 0) (none : P accepted) where
 
   pub before-given :
       (c : Counters) (event : Event) (list : List ℕ)
-      → (isRecord event ≡ true → P refusedOrder)
+      → ((isRecord event && ltb 0 (c .«events_seen»)) ≡ true → P refusedOrder)
       → (inSize (c .records) event list ≡ false → P refusedSize)
       → (isFull c event (length list) ≡ true → P refusedFull)
       → P (refusalBefore c event list)
   unfolding refusalBefore refusalBySize
   before-given c event list order size full =
-      by-test P (isRecord event && ltb 0 (c .«events_seen»))
-      (λ e. order (both-true (isRecord event) (ltb 0 (c .«events_seen»)) e .0))
+      by-test P (isRecord event && ltb 0 (c .«events_seen»)) order
       (λ e. by-test P (inSize (c .records) event list)
       (λ e. by-test P (isFull c event (length list)) full (λ e. none))
       size)

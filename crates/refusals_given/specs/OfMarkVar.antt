@@ -27,7 +27,6 @@ use Rattle.variable_records.specs.declared.VarAlloc.the-variants.{Temp, Perm}
 use Rattle.variable_records.specs.Records.{allocated, placedAt}
 use Rattle.variable_records.specs.Rows.{rowCells, recordAt}
 use Rattle.variable_records.specs.TableLaws.{record-put-length}
-use Rattle.perm_free_list.specs.declared.Looked.{Looked}
 use Rattle.perm_free_list.specs.PermFreeList.{entries, looked}
 use Rattle.branch_stack.specs.BranchStack.{currentBranch}
 use Rattle.branches.specs.declared.Recorded.{Recorded}
@@ -48,7 +47,6 @@ use Rattle.mark_var.specs.MarkVar.{temporaryMarked, permanentMarked, markedBy, 
 use Rattle.invariants.specs.Lists.{either, by-test}
 use Rattle.valid_stays.specs.Fits.{Kinds, AllocFits, Valid, Uses}
 use Rattle.valid_stays.specs.RecordsFit.{record-fits}
-use Rattle.valid_stays.specs.OfEvacuation.{EvacuationValid}
 use Rattle.valid_stays.specs.OfAllocation.{PlacementValid, slot-given-valid, perm-placed-valid}
 use Rattle.valid_stays.specs.OfMarkVar.{RegisterValid, register-placed-valid}
 use Rattle.refusals_given.specs.OfRecordMarks.{Settled, SettledIn, settled-in, settled-at, settled-put}

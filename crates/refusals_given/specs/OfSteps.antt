@@ -1,4 +1,4 @@
--- In a valid state each line is given what its row says.
+-- In a valid state each line is given what its row says; what refuses it before it is carried out, only then.
 use Prim.Native.Nat.{ℕ}
 use mathlib.Core.Path.{_≡_}
 use mathlib.Core.Bool.{true, false, true≢false, false≢true}
@@ -20,7 +20,7 @@ use Rattle.debray_allocator.specs.DebrayAllocator.{setsOf, carriedOut, seenAfte
 use Rattle.invariants.specs.Lists.{All, either, by-test}
 use Rattle.invariants.specs.OfEvents.{unrefused-in-size}
 use Rattle.valid_stays.specs.Fits.{Kinds, StateFits}
-use Rattle.refusals_given.specs.Given.{refusalsOf}
+use Rattle.refusals_given.specs.Given.{refusalsOf, carryingRefusals}
 use Rattle.refusals_given.specs.OfMarkVar.{var-marked-given, freed-given}
 use Rattle.refusals_given.specs.OfOtherMarks.{anon-marked-given, non-var-marked-given, cut-marked-given}
 use Rattle.refusals_given.specs.OfEvents.{before-given, perm-recorded-given, temp-recorded-given, give-given, incremented-given, open-given, arm-given, safe-given, close-given, take-given}
@@ -28,6 +28,9 @@ use Rattle.refusals_given.specs.OfEvents.{before-given, perm-recorded-gi
 -- P holds of 0 and of a row
 abbrev pub Row : (ℕ → Type 0) → Event → Type 0
 Row P event = All P (accepted ∷ refusalsOf event)
+
+abbrev pub CarryingRow : (ℕ → Type 0) → Event → Type 0
+CarryingRow P event = All P (accepted ∷ carryingRefusals event)
 
 -- a test that is never met, and one that always is
 never : {A : Type 0} → false ≡ true → A
@@ -69,39 +72,64 @@ module _ (P : ℕ → Type 0) (s : State) where
   before Contents list (none, end) = before-given P none c Contents list never always never
   before ClearFree list (none, end) = before-given P none c ClearFree list never always never
 
+  -- the second row is part of the first
+  carrying : (event : Event) → Row P event → CarryingRow P event
+  carrying (Temp context occurrences) (none, (order, (size, more))) = (none, more)
+  carrying (Perm occurrences) (none, (order, (size, more))) = (none, more)
+  carrying Sets row = row
+  carrying Head (none, more) = (none, tt)
+  carrying (Args count) (none, more) = (none, tt)
+  carrying (Var target level context v) (none, (size, more)) = (none, more)
+  carrying (Anon target level context) (none, (size, (register, more))) = (none, (register, tt))
+  carrying (NonVar level context cell) (none, (size, (register, more))) = (none, (register, tt))
+  carrying (Cut v chunk) (none, (size, more)) = (none, more)
+  carrying (Incr v) (none, (size, more)) = (none, more)
+  carrying (Free chunk v) (none, (size, more)) = (none, more)
+  carrying (Safe v) (none, (size, more)) = (none, more)
+  carrying (Give r) (none, (size, more)) = (none, more)
+  carrying (Tail tail) (none, more) = (none, tt)
+  carrying Next (none, more) = (none, tt)
+  carrying (Open start span arms) (none, (size, more)) = (none, more)
+  carrying (Arm start span) row = row
+  carrying Take row = row
+  carrying (Close depth) (none, (size, (stop, more))) = (none, (stop, tt))
+  carrying Reset row = row
+  carrying Contents row = row
+  carrying ClearFree row = row
+
   module _ (k : Kinds) (fits : StateFits k s) where
     abbrev tables : Rows
     tables = rows (s .records) (s .«use_counts») (s .«no_use») (s .conflict)
 
-    carried : (event : Event) (list : List ℕ) → inSize (c .records) event list ≡ true → Row P event → P (carriedOut s event list .refusal)
-    carried (Temp context occurrences) list fit (none, (order, (size, (full, end)))) =
+    carried : (event : Event) (list : List ℕ) → inSize (c .records) event list ≡ true → CarryingRow P event → P (carriedOut s event list .refusal)
+    carried (Temp context occurrences) list fit (none, (full, end)) =
         temp-recorded-given P none full c tables (s .«use_sets») context occurrences list
-    carried (Perm occurrences) list fit (none, (order, (size, (full, end)))) = perm-recorded-given P none full c tables occurrences
+    carried (Perm occurrences) list fit (none, (full, end)) = perm-recorded-given P none full c tables occurrences
     carried Sets list fit (none, end) = none
-    carried Head list fit (none, more) = none
-    carried (Args count) list fit (none, more) = none
-    carried (Var target level context v) list fit (none, (size, (stop, (register, (slot, (full, end)))))) =
+    carried Head list fit (none, end) = none
+    carried (Args count) list fit (none, end) = none
+    carried (Var target level context v) list fit (none, (stop, (register, (slot, (full, end))))) =
         let b = both-true (contextFits context) (ltb v (c .records)) fit in
         var-marked-given P none stop register slot full k (setsOf s) (fits .uses)
         (record { target = target; level = level; context = context; variable = v })
         (omega (arith, ltb-true v (c .records) (b .1), fits .whole .counted .records)) (fits .whole)
-    carried (Anon target level context) list fit (none, (size, (register, (full, end)))) =
+    carried (Anon target level context) list fit (none, (register, end)) =
         anon-marked-given P none register (s .records) (s .mappings) (setsOf s) (s .«freed_registers») target level context c
-    carried (NonVar level context cell) list fit (none, (size, (register, (full, end)))) =
+    carried (NonVar level context cell) list fit (none, (register, end)) =
         non-var-marked-given P none register (s .records) (s .mappings) (setsOf s) (s .«freed_registers») level context cell c
-    carried (Cut v chunk) list fit (none, (size, (register, (slot, end)))) =
+    carried (Cut v chunk) list fit (none, (register, (slot, end))) =
         cut-marked-given P none register slot c (s .records) (s .«freed_slots») (s .«freed_registers») v chunk
-    carried (Incr v) list fit (none, (size, (full, end))) = incremented-given P none full (s .records) v
-    carried (Free chunk v) list fit (none, (size, (full, end))) = freed-given P none full c (s .records) (s .«freed_slots») chunk v
-    carried (Safe v) list fit (none, (size, (stop, end))) = safe-given P none stop (s .records) (s .«branch_rows») (c .«open_branches») v
-    carried (Give r) list fit (none, (size, (full, end))) = give-given P none full c (s .«freed_registers») r
-    carried (Tail tail) list fit (none, more) = none
-    carried Next list fit (none, more) = none
-    carried (Open start span arms) list fit (none, (size, (full, end))) =
+    carried (Incr v) list fit (none, (full, end)) = incremented-given P none full (s .records) v
+    carried (Free chunk v) list fit (none, (full, end)) = freed-given P none full c (s .records) (s .«freed_slots») chunk v
+    carried (Safe v) list fit (none, (stop, end)) = safe-given P none stop (s .records) (s .«branch_rows») (c .«open_branches») v
+    carried (Give r) list fit (none, (full, end)) = give-given P none full c (s .«freed_registers») r
+    carried (Tail tail) list fit (none, end) = none
+    carried Next list fit (none, end) = none
+    carried (Open start span arms) list fit (none, (full, end)) =
         open-given P none full c (s .«branch_rows») (s .«branch_sets») start span arms
     carried (Arm start span) list fit (none, (stop, (full, end))) = arm-given P none full stop c (s .«branch_rows») (s .«branch_sets») start span
     carried Take list fit (none, (stop, end)) = take-given P none stop k (fits .whole)
-    carried (Close depth) list fit (none, (size, (stop, more))) =
+    carried (Close depth) list fit (none, (stop, end)) =
         close-given P none stop c (s .records) (s .«branch_rows») (s .«branch_sets») depth list
     carried Reset list fit (none, end) = none
     carried Contents list fit (none, end) = none
@@ -114,16 +142,19 @@ module _ (P : ℕ → Type 0) (s : State) where
     unfolding seenAfter
     seen-given a event given = either (λ (acted : Acted). P (acted .refusal)) (isRecord event) given given
 
-    acted-given : (event : Event) (list : List ℕ) → Row P event → AnswerGiven (acted s event list)
-    unfolding acted refusedWith
-    acted-given event list row =
-        let refusal = refusalBefore c event list in
-        by-test AnswerGiven (ltb 0 refusal) (λ e. before event list row)
-        (λ e. seen-given (carriedOut s event list) event
-        (carried event list (unrefused-in-size c event list (ltb-false 0 refusal e)) row))
+    module _ (event : Event) (list : List ℕ) (first : P (refusalBefore c event list)) (row : CarryingRow P event) where
+      acted-given : AnswerGiven (acted s event list)
+      unfolding acted refusedWith
+      acted-given =
+          let refusal = refusalBefore c event list in
+          by-test AnswerGiven (ltb 0 refusal) (λ e. first)
+          (λ e. seen-given (carriedOut s event list) event
+          (carried event list (unrefused-in-size c event list (ltb-false 0 refusal e)) row))
+
+      -- by what refuses it before, and by what refuses it while it is carried out
+      pub stepped-by : P (stepped s event list .refusal)
+      unfolding stepped unlessRefused refusedWith
+      stepped-by = either AnswerGiven (ltb 0 (acted s event list .refusal)) acted-given acted-given
 
     pub stepped-given : (event : Event) (list : List ℕ) → Row P event → P (stepped s event list .refusal)
-    unfolding stepped unlessRefused refusedWith
-    stepped-given event list row =
-        let a = acted s event list in
-        either AnswerGiven (ltb 0 (a .refusal)) (acted-given event list row) (acted-given event list row)
+    stepped-given event list row = stepped-by event list (before event list row) (carrying event row)

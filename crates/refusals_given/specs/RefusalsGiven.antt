@@ -50,7 +50,7 @@ use Rattle.refusals_given.specs.OfSteps.{Row, stepped-given}
 
 -- ---- A line whose form is right
 
-all-so : {P Q : ℕ → Type 0} → ((n : ℕ) → P n → Q n) → (ns : List ℕ) → All P ns → All Q ns
+pub all-so : {P Q : ℕ → Type 0} → ((n : ℕ) → P n → Q n) → (ns : List ℕ) → All P ns → All Q ns
 all-so f [] all = tt
 all-so f (n ∷ ns) all = (f n (all .0), all-so f ns (all .1))
 
@@ -68,60 +68,61 @@ module _ (s : State) (full : Full s) (valid : isValid s ≡ true) (event : Event
 
 -- ---- Every refusal that is ever given
 
--- at most 9, and not 8
+-- what a line whose form is right can be given: at most 7, and not 1
+abbrev pub OfEvent : ℕ → Type 0
+OfEvent refusal = (refusal ≤ refusedFull) × (refusal ≢ refusedForm)
+
+none : OfEvent accepted
+none = (omega arith, omega arith)
+
+order : OfEvent refusedOrder
+order = (omega arith, omega arith)
+
+size : OfEvent refusedSize
+size = (omega arith, omega arith)
+
+stop : OfEvent refusedStop
+stop = (omega arith, omega arith)
+
+register : OfEvent refusedRegister
+register = (omega arith, omega arith)
+
+slot : OfEvent refusedSlot
+slot = (omega arith, omega arith)
+
+full : OfEvent refusedFull
+full = (omega arith, omega arith)
+
+rows-of-events : (event : Event) → Row OfEvent event
+rows-of-events (Temp context occurrences) = (none, (order, (size, (full, tt))))
+rows-of-events (Perm occurrences) = (none, (order, (size, (full, tt))))
+rows-of-events Sets = (none, tt)
+rows-of-events Head = (none, (size, (full, tt)))
+rows-of-events (Args count) = (none, (size, tt))
+rows-of-events (Var target level context v) = (none, (size, (stop, (register, (slot, (full, tt))))))
+rows-of-events (Anon target level context) = (none, (size, (register, (full, tt))))
+rows-of-events (NonVar level context cell) = (none, (size, (register, (full, tt))))
+rows-of-events (Cut v chunk) = (none, (size, (register, (slot, tt))))
+rows-of-events (Incr v) = (none, (size, (full, tt)))
+rows-of-events (Free chunk v) = (none, (size, (full, tt)))
+rows-of-events (Safe v) = (none, (size, (stop, tt)))
+rows-of-events (Give r) = (none, (size, (full, tt)))
+rows-of-events (Tail tail) = (none, (size, tt))
+rows-of-events Next = (none, (full, tt))
+rows-of-events (Open start span arms) = (none, (size, (full, tt)))
+rows-of-events (Arm start span) = (none, (stop, (full, tt)))
+rows-of-events Take = (none, (stop, tt))
+rows-of-events (Close depth) = (none, (size, (stop, (full, tt))))
+rows-of-events Reset = (none, tt)
+rows-of-events Contents = (none, tt)
+rows-of-events ClearFree = (none, tt)
+
+-- what anything can be given: at most 9, and not 8
 abbrev pub Told : ℕ → Type 0
 Told refusal = (refusal ≤ refusedRoom) × (refusal ≢ refusedUnreachable)
 
-none : Told accepted
-none = (omega arith, omega arith)
-
-form : Told refusedForm
-form = (omega arith, omega arith)
-
-order : Told refusedOrder
-order = (omega arith, omega arith)
-
-size : Told refusedSize
-size = (omega arith, omega arith)
-
-stop : Told refusedStop
-stop = (omega arith, omega arith)
-
-register : Told refusedRegister
-register = (omega arith, omega arith)
-
-slot : Told refusedSlot
-slot = (omega arith, omega arith)
-
-full : Told refusedFull
-full = (omega arith, omega arith)
-
-room : Told refusedRoom
-room = (omega arith, omega arith)
-
-rows-told : (event : Event) → Row Told event
-rows-told (Temp context occurrences) = (none, (order, (size, (full, tt))))
-rows-told (Perm occurrences) = (none, (order, (size, (full, tt))))
-rows-told Sets = (none, tt)
-rows-told Head = (none, (size, (full, tt)))
-rows-told (Args count) = (none, (size, tt))
-rows-told (Var target level context v) = (none, (size, (stop, (register, (slot, (full, tt))))))
-rows-told (Anon target level context) = (none, (size, (register, (full, tt))))
-rows-told (NonVar level context cell) = (none, (size, (register, (full, tt))))
-rows-told (Cut v chunk) = (none, (size, (register, (slot, tt))))
-rows-told (Incr v) = (none, (size, (full, tt)))
-rows-told (Free chunk v) = (none, (size, (full, tt)))
-rows-told (Safe v) = (none, (size, (stop, tt)))
-rows-told (Give r) = (none, (size, (full, tt)))
-rows-told (Tail tail) = (none, (size, tt))
-rows-told Next = (none, (full, tt))
-rows-told (Open start span arms) = (none, (size, (full, tt)))
-rows-told (Arm start span) = (none, (stop, (full, tt)))
-rows-told Take = (none, (stop, tt))
-rows-told (Close depth) = (none, (size, (stop, (full, tt))))
-rows-told Reset = (none, tt)
-rows-told Contents = (none, tt)
-rows-told ClearFree = (none, tt)
+small-told : {refusal : ℕ} → refusal ≤ refusedFull → Told refusal
+small-told h = (omega arith, omega arith)
 
 -- an answer that is refused is given such a number, and not 0
 abbrev pub TellsApart : Answered → Type 0
@@ -129,43 +130,50 @@ TellsApart (Written count) = Unit {0}
 TellsApart (Refused line refusal) = (1 ≤ refusal) × Told refusal
 
 roomless : TellsApart (Refused 0 refusedRoom)
-roomless = (omega arith, room)
+roomless = (omega arith, (omega arith, omega arith))
 
 -- ---- Event sheets
 
 module _ (s : State) (tables : Full s) (valid : isValid s ≡ true) where
-  said-told : (said : Line) (list : List ℕ) → Told (saidAnswer s said list .refusal)
+  pub event-given : (event : Event) (list : List ℕ) → OfEvent (stepped s event list .refusal)
+  event-given event list = step-given s tables valid event list OfEvent (rows-of-events event)
+
+  said-small : (said : Line) (list : List ℕ) → saidAnswer s said list .refusal ≤ refusedFull
   unfolding refusedWith
-  said-told Malformed list = form
-  said-told (Says event count) list = step-given s tables valid event list Told (rows-told event)
+  said-small Malformed list = omega arith
+  said-small (Says event count) list = event-given event list .0
 
-  line-told : (line : List ℕ) → Told (lineAnswer s line .refusal)
+  line-small : (line : List ℕ) → lineAnswer s line .refusal ≤ refusedFull
   unfolding lineAnswer
-  line-told line = said-told (lineSays line) (lineList line)
+  line-small line = said-small (lineSays line) (lineList line)
 
-abbrev RanTold : Ran → Type 0
-RanTold r = Told (r .refusal)
+abbrev RanSmall : Ran → Type 0
+RanSmall r = r .refusal ≤ refusedFull
 
-ran-told : (parts : List (List ℕ)) (s : State) → Full s → isValid s ≡ true → (number : ℕ) → RanTold (ran s number parts)
+ran-small : (parts : List (List ℕ)) (s : State) → Full s → isValid s ≡ true → (number : ℕ) → RanSmall (ran s number parts)
 unfolding ran lastRan lineRan
-ran-told [] s tables valid number = none
-ran-told (left ∷ []) s tables valid number = either RanTold (ltb 0 (length left)) form none
-ran-told (line ∷ (next ∷ parts)) s tables valid number =
+ran-small [] s tables valid number = omega arith
+ran-small (left ∷ []) s tables valid number = either RanSmall (ltb 0 (length left)) (omega arith) (omega arith)
+ran-small (line ∷ (next ∷ parts)) s tables valid number =
     let after = line-valid s tables valid line in
-    either RanTold (ltb 0 (lineAnswer s line .refusal)) (line-told s tables valid line)
-    (ran-told (next ∷ parts) (lineAnswer s line .state) (after .0) (after .1) (suc number))
+    either RanSmall (ltb 0 (lineAnswer s line .refusal)) (line-small s tables valid line)
+    (ran-small (next ∷ parts) (lineAnswer s line .state) (after .0) (after .1) (suc number))
 
-ran-tells : (r : Ran) → RanTold r → (lent : ℕ) → TellsApart (eventsAnsweredBy r lent)
+pub sheet-small : (sheet : List ℕ) → RanSmall (sheetRan sheet)
+unfolding sheetRan
+sheet-small sheet = ran-small (split lineFeed sheet) freshState full-fresh fresh-valid 1
+
+ran-tells : (r : Ran) → RanSmall r → (lent : ℕ) → TellsApart (eventsAnsweredBy r lent)
 unfolding eventsAnsweredBy
-ran-tells r told lent =
-    by-test TellsApart (ltb 0 (r .refusal)) (λ e. (ltb-true 0 (r .refusal) e, told))
+ran-tells r small lent =
+    by-test TellsApart (ltb 0 (r .refusal)) (λ e. (ltb-true 0 (r .refusal) e, small-told small))
     (λ e. either TellsApart (ltb lent (length (r .text))) roomless tt)
 
 pub events-tell : (sheet : List ℕ) (lent : ℕ) → TellsApart (answeredEvents sheet lent)
-unfolding answeredEvents sheetRan
+unfolding answeredEvents
 events-tell sheet lent =
-    either TellsApart (ltb sheetBytes (length sheet)) (omega arith, full)
-    (ran-tells (sheetRan sheet) (ran-told (split lineFeed sheet) freshState full-fresh fresh-valid 1) lent)
+    either TellsApart (ltb sheetBytes (length sheet)) (omega arith, (omega arith, omega arith))
+    (ran-tells (sheetRan sheet) (sheet-small sheet) lent)
 
 -- ---- Calls, where the tables have the lengths that their types give them
 
@@ -173,26 +181,26 @@ abbrev CallTells : Called → Type 0
 CallTells c = TellsApart (c .answered)
 
 module _ (s : State) (tables : Full s) where
-  parts-told : isValid s ≡ true → (parts : List (List ℕ)) → Told (partsAnswer s parts .refusal)
+  parts-small : isValid s ≡ true → (parts : List (List ℕ)) → partsAnswer s parts .refusal ≤ refusedFull
   unfolding refusedWith
-  parts-told valid [] = form
-  parts-told valid (left ∷ []) = form
-  parts-told valid (line ∷ ([] ∷ [])) = line-told s tables valid line
-  parts-told valid (line ∷ ([] ∷ (other ∷ others))) = form
-  parts-told valid (line ∷ ((byte ∷ more) ∷ others)) = form
+  parts-small valid [] = omega arith
+  parts-small valid (left ∷ []) = omega arith
+  parts-small valid (line ∷ ([] ∷ [])) = line-small s tables valid line
+  parts-small valid (line ∷ ([] ∷ (other ∷ others))) = omega arith
+  parts-small valid (line ∷ ((byte ∷ more) ∷ others)) = omega arith
 
   pub call-tells : (bytes : List ℕ) (lent : ℕ) → CallTells (called s bytes lent)
   unfolding called calledBy bytesAnswer
   call-tells bytes lent =
       let a = bytesAnswer s bytes in
       by-test CallTells (isValid s)
-      (λ valid. by-test CallTells (ltb 0 (a .refusal)) (λ e. (ltb-true 0 (a .refusal) e, parts-told valid (split lineFeed bytes)))
+      (λ valid. by-test CallTells (ltb 0 (a .refusal)) (λ e. (ltb-true 0 (a .refusal) e, small-told (parts-small valid (split lineFeed bytes))))
       (λ e. either CallTells (ltb lent (length (textOf a))) roomless tt))
-      (λ e. (omega arith, size))
+      (λ e. (omega arith, (omega arith, omega arith)))
 
 pub last-tells : (s : State) (lent : ℕ) → TellsApart (lastAnswered s lent)
 unfolding lastAnswered
-last-tells s lent = either TellsApart (isValid s) (ran-tells (ended (s .counters)) none lent) (omega arith, size)
+last-tells s lent = either TellsApart (isValid s) (ran-tells (ended (s .counters)) (omega arith) lent) (omega arith, (omega arith, omega arith))
 
 -- ---- Check sheets
 
@@ -200,15 +208,15 @@ abbrev ReadingTells : Reading → Type 0
 ReadingTells (bad number refusal) = (1 ≤ refusal) × Told refusal
 ReadingTells (reads lines) = Unit {0}
 
-end-told : (o : Order) → Told (refusalAtEnd o)
+end-small : (o : Order) → refusalAtEnd o ≤ refusedFull
 unfolding refusalAtEnd
-end-told o = either Told (eqb (o .kind) goalStep) order none
+end-small o = either (λ (n : ℕ). n ≤ refusedFull) (eqb (o .kind) goalStep) (omega arith) (omega arith)
 
 last-read-tells : (o : Order) (number : ℕ) (left : List ℕ) → ReadingTells (lastRead o number left)
 unfolding lastRead
 last-read-tells o number left =
-    either ReadingTells (ltb 0 (length left)) (omega arith, form)
-    (by-test ReadingTells (ltb 0 (refusalAtEnd o)) (λ e. (ltb-true 0 (refusalAtEnd o) e, end-told o)) (λ e. tt))
+    either ReadingTells (ltb 0 (length left)) (omega arith, (omega arith, omega arith))
+    (by-test ReadingTells (ltb 0 (refusalAtEnd o)) (λ e. (ltb-true 0 (refusalAtEnd o) e, small-told (end-small o))) (λ e. tt))
 
 in-front-tells : (line : CheckLine) (r : Reading) → ReadingTells r → ReadingTells (inFront line r)
 in-front-tells line (bad number refusal) tells = tells
@@ -217,11 +225,10 @@ in-front-tells line (reads lines) tells = tt
 line-read-tells :
     (number : ℕ) (o : Order) (said : CheckedLine) (others : Order → Reading) → ((after : Order) → ReadingTells (others after))
     → ReadingTells (lineRead number o said others)
-line-read-tells number o Unread others later = (omega arith, form)
+line-read-tells number o Unread others later = (omega arith, (omega arith, omega arith))
 line-read-tells number o (Reads line) others later =
     let refusal = judged o line .refusal in
-    let most = refusal-le o line in
-    by-test ReadingTells (ltb 0 refusal) (λ e. (ltb-true 0 refusal e, (omega arith, omega arith)))
+    by-test ReadingTells (ltb 0 refusal) (λ e. (ltb-true 0 refusal e, small-told (refusal-le o line)))
     (λ e. in-front-tells line (others (judged o line .order)) (later (judged o line .order)))
 
 read-tells : (parts : List (List ℕ)) (o : Order) (number : ℕ) → ReadingTells (readFrom o number parts)
@@ -240,7 +247,7 @@ reading-tells (reads lines) tells lent = either TellsApart (ltb lent (length (wo
 pub check-tells : (sheet : List ℕ) (lent : ℕ) → TellsApart (answeredCheck sheet lent)
 unfolding answeredCheck reading
 check-tells sheet lent =
-    either TellsApart (ltb sheetBytes (length sheet)) (omega arith, full)
+    either TellsApart (ltb sheetBytes (length sheet)) (omega arith, (omega arith, omega arith))
     (reading-tells (reading sheet) (read-tells (split lineFeed sheet) freshOrder 1) lent)
 
 -- ---- The number for a host

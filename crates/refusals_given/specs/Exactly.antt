@@ -1,0 +1,240 @@
+-- A valid state and a line of an event sheet: it is given 1 exactly if its form is wrong; 2 exactly if it is out of order;
+-- in order, 3 exactly if a number is outside its size or names no variable. And a sheet: it is refused as a whole as 7
+-- exactly if it is too long, and as 9 exactly if nothing else refuses it and the text is longer than the room.
+use Prim.Native.Nat.{ℕ, suc, _≤_, _<_}
+use mathlib.Core.Path.{_≡_, refl, ap, _∙_}
+use mathlib.Core.Logic.{_≢_, _↔_}
+use mathlib.Core.Bool.{Bool, true, false, _&&_}
+use mathlib.Core.List.{List, [], _∷_}
+use native.Mathlib.Omega.{arith}
+use lib.Dec.{ltb}
+use lib.ListN.{length}
+use borrow.Author.Tests.{ltb-true, ltb-false, lt-ltb, le-ltb}
+use Rattle.refusals.specs.Refusals.{accepted, refusedForm, refusedOrder, refusedSize, refusedStop, refusedRegister, refusedSlot, refusedFull, refusedRoom}
+use Rattle.sizes.specs.Sizes.{sheetBytes}
+use Rattle.split.specs.Split.{lineFeed, split}
+use Rattle.events.specs.declared.Event.{Event}
+use Rattle.events.specs.declared.Event.the-variants.{Temp, Perm, Sets, Head, Args, Var, Anon, NonVar, Cut, Incr, Free, Safe, Give, Tail, Next, Open, Arm, Take, Close, Reset, Contents, ClearFree}
+use Rattle.events.specs.Events.{inSize, isRecord, refusalBySize, refusalBefore}
+use Rattle.event_lines.specs.declared.Line.{Line}
+use Rattle.event_lines.specs.declared.Line.the-variants.{Malformed, Says}
+use Rattle.event_lines.specs.EventLines.{lineSays, lineList}
+use Rattle.debray_allocator.specs.declared.State.{State}
+use Rattle.debray_allocator.specs.declared.Answer.{Answer}
+use Rattle.debray_allocator.specs.State.{freshState}
+use Rattle.debray_allocator.specs.DebrayAllocator.{refusedWith, acted, unlessRefused, stepped}
+use Rattle.answered.specs.declared.Answered.{Answered}
+use Rattle.answered.specs.declared.Answered.the-variants.{Written, Refused}
+use Rattle.event_sheets.specs.EventSheets.{Ran, saidAnswer, lineAnswer, lastRan, lineRan, ran, sheetRan, answeredBy, answered}
+use Rattle.valid_states.specs.ValidStates.{isValid}
+use Rattle.invariants.specs.Lists.{either, by-test}
+use Rattle.valid_stays.specs.Fits.{Full}
+use Rattle.valid_stays.specs.FromTests.{kindsOf, valid-small, valid-fits}
+use Rattle.refusals_given.specs.Given.{carryingRefusals}
+use Rattle.refusals_given.specs.OfEvents.{before-given}
+use Rattle.refusals_given.specs.OfSteps.{CarryingRow, stepped-by}
+use Rattle.refusals_given.specs.RefusalsGiven.{all-so, event-given, sheet-small}
+
+-- ---- 1: the form
+
+module _ (s : State) (full : Full s) (valid : isValid s ≡ true) where
+  said-form : (said : Line) (list : List ℕ) → saidAnswer s said list .refusal ≡ refusedForm → said ≡ Malformed
+  said-form Malformed list e = refl
+  said-form (Says event count) list e = absurd (event-given s full valid event list .1 e)
+
+  form-given : (said : Line) (list : List ℕ) → said ≡ Malformed → saidAnswer s said list .refusal ≡ refusedForm
+  unfolding refusedWith
+  form-given said list e = ap (λ (said : Line). saidAnswer s said list .refusal) e
+
+  pub form-exactly : (line : List ℕ) → (lineAnswer s line .refusal ≡ refusedForm) ↔ (lineSays line ≡ Malformed)
+  unfolding lineAnswer
+  form-exactly line = (said-form (lineSays line) (lineList line), form-given (lineSays line) (lineList line))
+
+-- ---- 2 and 3 exactly
+
+-- no number of what only comes before
+abbrev Late : ℕ → Type 0
+Late n = (n ≢ refusedOrder) × (n ≢ refusedSize)
+
+none-late : Late accepted
+none-late = (omega arith, omega arith)
+
+stop-late : Late refusedStop
+stop-late = (omega arith, omega arith)
+
+register-late : Late refusedRegister
+register-late = (omega arith, omega arith)
+
+slot-late : Late refusedSlot
+slot-late = (omega arith, omega arith)
+
+full-late : Late refusedFull
+full-late = (omega arith, omega arith)
+
+carrying-late : (event : Event) → CarryingRow Late event
+carrying-late (Temp context occurrences) = (none-late, (full-late, tt))
+carrying-late (Perm occurrences) = (none-late, (full-late, tt))
+carrying-late Sets = (none-late, tt)
+carrying-late Head = (none-late, tt)
+carrying-late (Args count) = (none-late, tt)
+carrying-late (Var target level context v) = (none-late, (stop-late, (register-late, (slot-late, (full-late, tt)))))
+carrying-late (Anon target level context) = (none-late, (register-late, tt))
+carrying-late (NonVar level context cell) = (none-late, (register-late, tt))
+carrying-late (Cut v chunk) = (none-late, (register-late, (slot-late, tt)))
+carrying-late (Incr v) = (none-late, (full-late, tt))
+carrying-late (Free chunk v) = (none-late, (full-late, tt))
+carrying-late (Safe v) = (none-late, (stop-late, tt))
+carrying-late (Give r) = (none-late, (full-late, tt))
+carrying-late (Tail tail) = (none-late, tt)
+carrying-late Next = (none-late, tt)
+carrying-late (Open start span arms) = (none-late, (full-late, tt))
+carrying-late (Arm start span) = (none-late, (stop-late, (full-late, tt)))
+carrying-late Take = (none-late, (stop-late, tt))
+carrying-late (Close depth) = (none-late, (stop-late, tt))
+carrying-late Reset = (none-late, tt)
+carrying-late Contents = (none-late, tt)
+carrying-late ClearFree = (none-late, tt)
+
+module _ (s : State) (full : Full s) (valid : isValid s ≡ true) (event : Event) (list : List ℕ) where
+  -- a record after an event
+  abbrev pub outOfOrder : Bool
+  outOfOrder = isRecord event && ltb 0 (s .counters .«events_seen»)
+
+  -- every number is inside its size, or names a variable that there is
+  abbrev pub sizesFit : Bool
+  sizesFit = inSize (s .counters .records) event list
+
+  abbrev first : ℕ
+  first = refusalBefore (s .counters) event list
+
+  -- what refuses a line before it is carried out is what it is given
+  first-given : 0 < first → stepped s event list .refusal ≡ first
+  unfolding stepped unlessRefused acted refusedWith
+  first-given some =
+      let Same : Answer → Type 0 = λ a. a .refusal ≡ first in
+      let reached : Same (acted s event list) =
+      by-test Same (ltb 0 first) (λ e. refl) (λ e. absurd (omega (arith, ltb-false 0 first e))) in
+      either Same (ltb 0 (acted s event list .refusal)) reached reached
+
+  -- and no other line is given a number that only comes before
+  only-before : (P : ℕ → Type 0) → P first → ((n : ℕ) → Late n → P n) → P (stepped s event list .refusal)
+  only-before P before late =
+      stepped-by P s (kindsOf s (valid-small s valid)) (valid-fits s full valid) event list before
+      (all-so late (accepted ∷ carryingRefusals event) (carrying-late event))
+
+  order-only : stepped s event list .refusal ≡ refusedOrder → outOfOrder ≡ true
+  order-only =
+      let P : ℕ → Type 0 = λ n. n ≡ refusedOrder → outOfOrder ≡ true in
+      only-before P
+      (before-given P (λ same. absurd (omega arith)) (s .counters) event list (λ e same. e) (λ e same. absurd (omega arith))
+      (λ e same. absurd (omega arith)))
+      (λ n late same. absurd (late .0 same))
+
+  order-given : outOfOrder ≡ true → stepped s event list .refusal ≡ refusedOrder
+  unfolding refusalBefore
+  order-given e =
+      let same : first ≡ refusedOrder = simp (e) in
+      first-given (omega (arith, same)) ∙ same
+
+  pub order-exactly : (stepped s event list .refusal ≡ refusedOrder) ↔ (outOfOrder ≡ true)
+  order-exactly = (order-only, order-given)
+
+  size-only : stepped s event list .refusal ≡ refusedSize → sizesFit ≡ false
+  size-only =
+      let P : ℕ → Type 0 = λ n. n ≡ refusedSize → sizesFit ≡ false in
+      only-before P
+      (before-given P (λ same. absurd (omega arith)) (s .counters) event list (λ e same. absurd (omega arith)) (λ e same. e)
+      (λ e same. absurd (omega arith)))
+      (λ n late same. absurd (late .1 same))
+
+  module _ (inOrder : outOfOrder ≡ false) where
+    size-given : sizesFit ≡ false → stepped s event list .refusal ≡ refusedSize
+    unfolding refusalBefore refusalBySize
+    size-given e =
+        let same : first ≡ refusedSize = simp (inOrder, e) in
+        first-given (omega (arith, same)) ∙ same
+
+    pub size-exactly : (stepped s event list .refusal ≡ refusedSize) ↔ (sizesFit ≡ false)
+    size-exactly = (size-only, size-given)
+
+-- ---- A sheet as a whole: 7 for its length, first of all, and 9 for the room, last of all
+
+abbrev lineIn : Answered → ℕ
+lineIn (Written count) = 0
+lineIn (Refused line refusal) = line
+
+abbrev refusalIn : Answered → ℕ
+refusalIn (Written count) = 0
+refusalIn (Refused line refusal) = refusal
+
+-- a line that is refused has a number
+abbrev Numbered : Ran → Type 0
+Numbered r = 0 < r .refusal → 1 ≤ r .line
+
+ran-numbered : (parts : List (List ℕ)) (s : State) (number : ℕ) → 1 ≤ number → Numbered (ran s number parts)
+unfolding ran lastRan lineRan
+ran-numbered [] s number some = λ refused. absurd (omega arith)
+ran-numbered (left ∷ []) s number some = either Numbered (ltb 0 (length left)) (λ refused. some) (λ refused. absurd (omega arith))
+ran-numbered (line ∷ (next ∷ parts)) s number some =
+    either Numbered (ltb 0 (lineAnswer s line .refusal)) (λ refused. some)
+    (ran-numbered (next ∷ parts) (lineAnswer s line .state) (suc number) (omega arith))
+
+sheet-numbered : (sheet : List ℕ) → Numbered (sheetRan sheet)
+unfolding sheetRan
+sheet-numbered sheet = ran-numbered (split lineFeed sheet) freshState 1 (omega arith)
+
+module _ (r : Ran) (lent : ℕ) where
+  -- the sheet is not refused as a whole but for the room
+  by-lines : Numbered r → answeredBy r lent ≡ Refused 0 refusedFull → ⊥
+  unfolding answeredBy
+  by-lines numbered =
+      let NotFull : Answered → Type 0 = λ a. a ≡ Refused 0 refusedFull → ⊥ in
+      by-test NotFull (ltb 0 (r .refusal))
+      (λ e same. omega (arith, ap lineIn same, numbered (ltb-true 0 (r .refusal) e)))
+      (λ e. either NotFull (ltb lent (length (r .text))) (λ same. omega (arith, ap refusalIn same)) (λ same. omega (arith, ap refusalIn same)))
+
+  by-room : r .refusal ≤ refusedFull → answeredBy r lent ≡ Refused 0 refusedRoom → (r .refusal ≤ 0) × (lent < length (r .text))
+  unfolding answeredBy
+  by-room small =
+      let Roomless : Answered → Type 0 = λ a. a ≡ Refused 0 refusedRoom → (r .refusal ≤ 0) × (lent < length (r .text)) in
+      by-test Roomless (ltb 0 (r .refusal)) (λ e same. absurd (omega (arith, ap refusalIn same, small)))
+      (λ e. by-test Roomless (ltb lent (length (r .text))) (λ longer same. (ltb-false 0 (r .refusal) e, ltb-true lent (length (r .text)) longer))
+      (λ fits same. absurd (omega (arith, ap refusalIn same))))
+
+  room-given : r .refusal ≤ 0 → lent < length (r .text) → answeredBy r lent ≡ Refused 0 refusedRoom
+  unfolding answeredBy
+  room-given accepts longer = simp (le-ltb 0 (r .refusal) accepts, lt-ltb lent (length (r .text)) longer)
+
+module _ (sheet : List ℕ) (lent : ℕ) where
+  length-only : answered sheet lent ≡ Refused 0 refusedFull → sheetBytes < length sheet
+  unfolding answered
+  length-only =
+      let TooLong : Answered → Type 0 = λ a. a ≡ Refused 0 refusedFull → sheetBytes < length sheet in
+      by-test TooLong (ltb sheetBytes (length sheet)) (λ e same. ltb-true sheetBytes (length sheet) e)
+      (λ e same. absurd (by-lines (sheetRan sheet) lent (sheet-numbered sheet) same))
+
+  length-given : sheetBytes < length sheet → answered sheet lent ≡ Refused 0 refusedFull
+  unfolding answered
+  length-given long = simp (lt-ltb sheetBytes (length sheet) long)
+
+  pub length-exactly : (answered sheet lent ≡ Refused 0 refusedFull) ↔ (sheetBytes < length sheet)
+  length-exactly = (length-only, length-given)
+
+  -- no line is refused, and the text is longer than the room
+  abbrev pub Roomless : Type 0
+  Roomless = (length sheet ≤ sheetBytes) × (sheetRan sheet .refusal ≤ accepted) × (lent < length (sheetRan sheet .text))
+
+  room-only : answered sheet lent ≡ Refused 0 refusedRoom → Roomless
+  unfolding answered
+  room-only =
+      let ToldRoomless : Answered → Type 0 = λ a. a ≡ Refused 0 refusedRoom → Roomless in
+      by-test ToldRoomless (ltb sheetBytes (length sheet)) (λ e same. absurd (omega (arith, ap refusalIn same)))
+      (λ e same. (let found = by-room (sheetRan sheet) lent (sheet-small sheet) same in
+      (ltb-false sheetBytes (length sheet) e, found .0, found .1)))
+
+  room-so : Roomless → answered sheet lent ≡ Refused 0 refusedRoom
+  unfolding answered
+  room-so h = simp (le-ltb sheetBytes (length sheet) (h .0), room-given (sheetRan sheet) lent (h .1) (h .2))
+
+  pub room-exactly : (answered sheet lent ≡ Refused 0 refusedRoom) ↔ Roomless
+  room-exactly = (room-only, room-so)
