@@ -24,6 +24,7 @@ use Rattle.freeing.specs.Freeing.{Release, pushedFree, freedAs, freed as freein
 use Rattle.resets.specs.Resets.{Answer as Counting, registerFreed, runningIncremented, safeMarkedAs, safeMarked}
 use Rattle.branches.specs.declared.Opened.{Opened}
 use Rattle.branches.specs.declared.Advanced.{Advanced}
+use Rattle.branches.specs.declared.Advanced.the-variants.{NextArm, ArmsFull}
 use Rattle.branches.specs.declared.Taken.{Taken}
 use Rattle.branches.specs.declared.Recorded.the-variants.{Well, PastArms}
 use Rattle.branches.specs.declared.Popped.the-variants.{Left, TooDeep, ClosesTemporary, PastOuterArms}
@@ -68,22 +69,36 @@ choice-exactly :
 choice-exactly refusalIn n true p q = (λ e. refl, λ e. p)
 choice-exactly refusalIn n false p q = (λ e. absurd (q e), λ e. absurd (false≢true e))
 
--- ---- 4: `arm` or `take` with no open branch
+-- ---- 4: `arm` or `take` with no open branch; 7: no arm index left
 
 module _ (s : State) (list : List ℕ) where
   abbrev pub noOpenBranch : Bool
   noOpenBranch = eqb (s .counters .«open_branches») 0
 
+  -- the arm index would pass 65,535
+  abbrev pub lastArm : Bool
+  lastArm = leb counts (topOf (s .«branch_rows») (s .«branch_sets») (s .counters .«open_branches») .«current_branch_idx»)
+
   arm-carried : (start span : ℕ) → (carriedOut s (Arm start span) list .refusal ≡ refusedStop) ↔ (noOpenBranch ≡ true)
   unfolding armed advanced
   arm-carried start span =
-      let top = topOf (s .«branch_rows») (s .«branch_sets») (s .counters .«open_branches») in
       choice-exactly armRefusal refusedStop noOpenBranch refl
-      (either (λ (a : Advanced). armRefusal a ≡ refusedStop → ⊥) (leb counts (top .«current_branch_idx»)) (λ e. omega arith) (λ e. omega arith))
+      (either (λ (a : Advanced). armRefusal a ≡ refusedStop → ⊥) lastArm (λ e. omega arith) (λ e. omega arith))
 
   pub arm-stops : (start span : ℕ) → (stepped s (Arm start span) list .refusal ≡ refusedStop) ↔ (noOpenBranch ≡ true)
   unfolding refusalBefore refusalBySize
   arm-stops start span = told-exactly s (Arm start span) list (omega arith) refusedStop (arm-carried start span)
+
+  arm-counted : (start span : ℕ) → noOpenBranch ≡ false → (carriedOut s (Arm start span) list .refusal ≡ refusedFull) ↔ (lastArm ≡ true)
+  unfolding armed advanced
+  arm-counted start span some =
+      let within : (armRefusal (if lastArm then ArmsFull else NextArm) ≡ refusedFull) ↔ (lastArm ≡ true) =
+      choice-exactly armRefusal refusedFull lastArm refl (λ e. omega arith) in
+      simp (some) within
+
+  pub arm-full : (start span : ℕ) → noOpenBranch ≡ false → (stepped s (Arm start span) list .refusal ≡ refusedFull) ↔ (lastArm ≡ true)
+  unfolding refusalBefore refusalBySize
+  arm-full start span some = told-exactly s (Arm start span) list (omega arith) refusedFull (arm-counted start span some)
 
   take-carried : (carriedOut s Take list .refusal ≡ refusedStop) ↔ (noOpenBranch ≡ true)
   unfolding stockTaken taken

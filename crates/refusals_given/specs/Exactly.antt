@@ -1,6 +1,7 @@
 -- A valid state and a line of an event sheet: it is given 1 exactly if its form is wrong; 2 exactly if it is out of order;
--- in order, 3 exactly if a number is outside its size or names no variable. And a sheet: it is refused as a whole as 7
--- exactly if it is too long, and as 9 exactly if nothing else refuses it and the text is longer than the room.
+-- in order, 3 exactly if a number is outside its size or names no variable; then 7, of most events, exactly if its list is
+-- too long or the argument counter stands at 64 (of the others see CarriedExactly). And a sheet: it is refused as a whole as
+-- 7 exactly if it is too long, and as 9 exactly if nothing else refuses it and the text is longer than the room.
 use Prim.Native.Nat.{ℕ, suc, _≤_, _<_}
 use mathlib.Core.Path.{_≡_, refl, ap, _∙_}
 use mathlib.Core.Logic.{_≢_, _↔_}
@@ -15,7 +16,7 @@ use Rattle.sizes.specs.Sizes.{sheetBytes}
 use Rattle.split.specs.Split.{lineFeed, split}
 use Rattle.events.specs.declared.Event.{Event}
 use Rattle.events.specs.declared.Event.the-variants.{Temp, Perm, Sets, Head, Args, Var, Anon, NonVar, Cut, Incr, Free, Safe, Give, Tail, Next, Open, Arm, Take, Close, Reset, Contents, ClearFree}
-use Rattle.events.specs.Events.{inSize, isRecord, refusalBySize, refusalBefore}
+use Rattle.events.specs.Events.{inSize, isFull, isRecord, refusalBySize, refusalBefore}
 use Rattle.event_lines.specs.declared.Line.{Line}
 use Rattle.event_lines.specs.declared.Line.the-variants.{Malformed, Says}
 use Rattle.event_lines.specs.EventLines.{lineSays, lineList}
@@ -95,6 +96,58 @@ carrying-late Reset = (none-late, tt)
 carrying-late Contents = (none-late, tt)
 carrying-late ClearFree = (none-late, tt)
 
+abbrev NotFull : ℕ → Type 0
+NotFull n = n ≢ refusedFull
+
+-- nothing is full while the event is carried out
+abbrev pub FullOnlyBefore : Event → Type 0
+FullOnlyBefore (Temp context occurrences) = ⊥
+FullOnlyBefore (Perm occurrences) = ⊥
+FullOnlyBefore Sets = Unit {0}
+FullOnlyBefore Head = Unit {0}
+FullOnlyBefore (Args count) = Unit {0}
+FullOnlyBefore (Var target level context v) = ⊥
+FullOnlyBefore (Anon target level context) = Unit {0}
+FullOnlyBefore (NonVar level context cell) = Unit {0}
+FullOnlyBefore (Cut v chunk) = Unit {0}
+FullOnlyBefore (Incr v) = ⊥
+FullOnlyBefore (Free chunk v) = ⊥
+FullOnlyBefore (Safe v) = Unit {0}
+FullOnlyBefore (Give r) = ⊥
+FullOnlyBefore (Tail tail) = Unit {0}
+FullOnlyBefore Next = Unit {0}
+FullOnlyBefore (Open start span arms) = ⊥
+FullOnlyBefore (Arm start span) = ⊥
+FullOnlyBefore Take = Unit {0}
+FullOnlyBefore (Close depth) = Unit {0}
+FullOnlyBefore Reset = Unit {0}
+FullOnlyBefore Contents = Unit {0}
+FullOnlyBefore ClearFree = Unit {0}
+
+not-full-row : (event : Event) → FullOnlyBefore event → CarryingRow NotFull event
+not-full-row (Temp context occurrences) only = absurd only
+not-full-row (Perm occurrences) only = absurd only
+not-full-row Sets only = (omega arith, tt)
+not-full-row Head only = (omega arith, tt)
+not-full-row (Args count) only = (omega arith, tt)
+not-full-row (Var target level context v) only = absurd only
+not-full-row (Anon target level context) only = (omega arith, (omega arith, tt))
+not-full-row (NonVar level context cell) only = (omega arith, (omega arith, tt))
+not-full-row (Cut v chunk) only = (omega arith, (omega arith, (omega arith, tt)))
+not-full-row (Incr v) only = absurd only
+not-full-row (Free chunk v) only = absurd only
+not-full-row (Safe v) only = (omega arith, (omega arith, tt))
+not-full-row (Give r) only = absurd only
+not-full-row (Tail tail) only = (omega arith, tt)
+not-full-row Next only = (omega arith, tt)
+not-full-row (Open start span arms) only = absurd only
+not-full-row (Arm start span) only = absurd only
+not-full-row Take only = (omega arith, (omega arith, tt))
+not-full-row (Close depth) only = (omega arith, (omega arith, tt))
+not-full-row Reset only = (omega arith, tt)
+not-full-row Contents only = (omega arith, tt)
+not-full-row ClearFree only = (omega arith, tt)
+
 module _ (s : State) (full : Full s) (valid : isValid s ≡ true) (event : Event) (list : List ℕ) where
   -- a record after an event
   abbrev pub outOfOrder : Bool
@@ -156,6 +209,30 @@ module _ (s : State) (full : Full s) (valid : isValid s ≡ true) (event : Event
 
     pub size-exactly : (stepped s event list .refusal ≡ refusedSize) ↔ (sizesFit ≡ false)
     size-exactly = (size-only, size-given)
+
+  -- ---- 7 before a line is carried out, for events of which nothing can be full later
+
+  -- a list that is too long, or the argument counter at 64
+  abbrev pub tooFull : Bool
+  tooFull = isFull (s .counters) event (length list)
+
+  full-only : CarryingRow NotFull event → stepped s event list .refusal ≡ refusedFull → tooFull ≡ true
+  full-only row =
+      let P : ℕ → Type 0 = λ n. n ≡ refusedFull → tooFull ≡ true in
+      stepped-by P s (kindsOf s (valid-small s valid)) (valid-fits s full valid) event list
+      (before-given P (λ same. absurd (omega arith)) (s .counters) event list (λ e same. absurd (omega arith))
+      (λ e same. absurd (omega arith)) (λ e same. e))
+      (all-so (λ n other same. absurd (other same)) (accepted ∷ carryingRefusals event) row)
+
+  module _ (inOrder : outOfOrder ≡ false) (fits : sizesFit ≡ true) where
+    full-given : tooFull ≡ true → stepped s event list .refusal ≡ refusedFull
+    unfolding refusalBefore refusalBySize
+    full-given e =
+        let same : first ≡ refusedFull = simp (inOrder, fits, e) in
+        first-given (omega (arith, same)) ∙ same
+
+    pub full-exactly : FullOnlyBefore event → (stepped s event list .refusal ≡ refusedFull) ↔ (tooFull ≡ true)
+    full-exactly only = (full-only (not-full-row event only), full-given)
 
 -- ---- A sheet as a whole: 7 for its length, first of all, and 9 for the room, last of all
 
