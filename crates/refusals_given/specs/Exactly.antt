@@ -1,7 +1,8 @@
 -- A valid state and a line of an event sheet: it is given 1 exactly if its form is wrong; 2 exactly if it is out of order;
 -- in order, 3 exactly if a number is outside its size or names no variable; then 7, of most events, exactly if its list is
--- too long or the argument counter stands at 64 (of the others see CarriedExactly). And a sheet: it is refused as a whole as
--- 7 exactly if it is too long, and as 9 exactly if nothing else refuses it and the text is longer than the room.
+-- too long, the record is one too many or the argument counter stands at 64 (of the others see CarriedExactly). And a sheet:
+-- it is refused as a whole as 7 exactly if it is too long, and as 9 exactly if nothing else refuses it and the text is longer
+-- than the room.
 use Prim.Native.Nat.{ℕ, suc, _≤_, _<_}
 use mathlib.Core.Path.{_≡_, refl, ap, _∙_}
 use mathlib.Core.Logic.{_≢_, _↔_}
@@ -73,8 +74,8 @@ full-late : Late refusedFull
 full-late = (omega arith, omega arith)
 
 carrying-late : (event : Event) → CarryingRow Late event
-carrying-late (Temp context occurrences) = (none-late, (full-late, tt))
-carrying-late (Perm occurrences) = (none-late, (full-late, tt))
+carrying-late (Temp context occurrences) = (none-late, tt)
+carrying-late (Perm occurrences) = (none-late, tt)
 carrying-late Sets = (none-late, tt)
 carrying-late Head = (none-late, tt)
 carrying-late (Args count) = (none-late, tt)
@@ -101,8 +102,8 @@ NotFull n = n ≢ refusedFull
 
 -- nothing is full while the event is carried out
 abbrev pub FullOnlyBefore : Event → Type 0
-FullOnlyBefore (Temp context occurrences) = ⊥
-FullOnlyBefore (Perm occurrences) = ⊥
+FullOnlyBefore (Temp context occurrences) = Unit {0}
+FullOnlyBefore (Perm occurrences) = Unit {0}
 FullOnlyBefore Sets = Unit {0}
 FullOnlyBefore Head = Unit {0}
 FullOnlyBefore (Args count) = Unit {0}
@@ -125,8 +126,8 @@ FullOnlyBefore Contents = Unit {0}
 FullOnlyBefore ClearFree = Unit {0}
 
 not-full-row : (event : Event) → FullOnlyBefore event → CarryingRow NotFull event
-not-full-row (Temp context occurrences) only = absurd only
-not-full-row (Perm occurrences) only = absurd only
+not-full-row (Temp context occurrences) only = (omega arith, tt)
+not-full-row (Perm occurrences) only = (omega arith, tt)
 not-full-row Sets only = (omega arith, tt)
 not-full-row Head only = (omega arith, tt)
 not-full-row (Args count) only = (omega arith, tt)
@@ -212,7 +213,7 @@ module _ (s : State) (full : Full s) (valid : isValid s ≡ true) (event : Event
 
   -- ---- 7 before a line is carried out, for events of which nothing can be full later
 
-  -- a list that is too long, or the argument counter at 64
+  -- a list that is too long, a record too many, or the argument counter at 64
   abbrev pub tooFull : Bool
   tooFull = isFull (s .counters) event (length list)
 

@@ -32,8 +32,8 @@ refusalsOf ClearFree = []
 
 -- by a line that nothing refused before
 abbrev pub carryingRefusals : Event → List ℕ
-carryingRefusals (Temp context occurrences) = refusedFull ∷ []
-carryingRefusals (Perm occurrences) = refusedFull ∷ []
+carryingRefusals (Temp context occurrences) = []
+carryingRefusals (Perm occurrences) = []
 carryingRefusals Sets = []
 carryingRefusals Head = []
 carryingRefusals (Args count) = []

@@ -1,8 +1,9 @@
 -- What the other events can be given, and what refuses any line before it is carried out.
-use Prim.Native.Nat.{ℕ}
+use Prim.Native.Nat.{ℕ, _≤_}
 use mathlib.Core.Path.{_≡_, refl, sym, ap, _∙_}
 use mathlib.Core.Bool.{Bool, true, false, _&&_, _||_, false≢true}
 use mathlib.Core.List.{List, [], _∷_}
+use native.Mathlib.Omega.{arith}
 use lib.Dec.{eqb, leb, ltb}
 use lib.ListN.{length}
 use Rattle.refusals.specs.Refusals.{accepted, refusedOrder, refusedSize, refusedStop, refusedFull}
@@ -32,6 +33,21 @@ use Rattle.invariants.specs.Lists.{All, either, by-test}
 use Rattle.valid_stays.specs.Fits.{Kinds, Records, Permanent, Valid}
 use Rattle.valid_stays.specs.OfBranches.{hits-permanent}
 
+-- a line that nothing refused before is not too long, and has room
+pub unrefused-not-full :
+    (c : Counters) (event : Event) (list : List ℕ) → refusalBefore c event list ≤ accepted → isFull c event (length list) ≡ false
+unfolding refusalBefore refusalBySize
+unrefused-not-full c event list =
+    let Room : ℕ → Type 0 = λ n. n ≤ accepted → isFull c event (length list) ≡ false in
+    by-test Room (isRecord event && ltb 0 (c .«events_seen»)) (λ e h. absurd (omega arith))
+    (λ e. by-test Room (inSize (c .records) event list)
+    (λ e. by-test Room (isFull c event (length list)) (λ e h. absurd (omega arith)) (λ e h. e))
+    (λ e h. absurd (omega arith)))
+
+pub neither-second : (a b : Bool) → (a || b) ≡ false → b ≡ false
+neither-second true b e = absurd (false≢true (sym e))
+neither-second false b e = e
+
 module _ (P : ℕ → Type 0) (none : P accepted) where
   -- ---- Before it is carried out: 2, 3, then 7
 
@@ -48,20 +64,24 @@ module _ (P : ℕ → Type 0) (none : P accepted) where
       (λ e. by-test P (isFull c event (length list)) full (λ e. none))
       size)
 
-  module _ (full : P refusedFull) where
-    -- ---- Records and counts
+  -- ---- Records and counts
 
-    pub perm-recorded-given : (c : Counters) (t : Rows) (occurrences : ℕ) → P (permRecorded c t occurrences .released .refusal)
+  module _ (c : Counters) (room : leb variables (c .records) ≡ false) where
+    pub perm-recorded-given : (t : Rows) (occurrences : ℕ) → P (permRecorded c t occurrences .released .refusal)
     unfolding permRecorded
-    perm-recorded-given c t occurrences = either (λ (r : Recording). P (r .released .refusal)) (leb variables (c .records)) full none
+    perm-recorded-given t occurrences =
+        by-test (λ (r : Recording). P (r .released .refusal)) (leb variables (c .records)) (λ e. absurd (false≢true (sym room ∙ e)))
+        (λ e. none)
 
     pub temp-recorded-given :
-        (c : Counters) (t : Rows) (useSets : List ℕ) (context : GenContext) (occurrences : ℕ) (codes : List ℕ)
+        (t : Rows) (useSets : List ℕ) (context : GenContext) (occurrences : ℕ) (codes : List ℕ)
         → P (tempRecorded c t useSets context occurrences codes .released .refusal)
     unfolding tempRecorded
-    temp-recorded-given c t useSets context occurrences codes =
-        either (λ (r : TempRecording). P (r .released .refusal)) (leb variables (c .records)) full none
+    temp-recorded-given t useSets context occurrences codes =
+        by-test (λ (r : TempRecording). P (r .released .refusal)) (leb variables (c .records)) (λ e. absurd (false≢true (sym room ∙ e)))
+        (λ e. none)
 
+  module _ (full : P refusedFull) where
     pub give-given : (c : Counters) (list : List ℕ) (r : ℕ) → P (registerFreed c list r .released .refusal)
     unfolding registerFreed
     give-given c list r = either (λ (r : Release). P (r .released .refusal)) (leb freedRegisters (c .«freed_registers»)) full none

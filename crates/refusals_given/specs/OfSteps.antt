@@ -1,17 +1,19 @@
 -- In a valid state each line is given what its row says; what refuses it before it is carried out, only then.
-use Prim.Native.Nat.{ℕ}
+use Prim.Native.Nat.{ℕ, _≤_}
 use mathlib.Core.Path.{_≡_}
 use mathlib.Core.Bool.{true, false, true≢false, false≢true}
 use mathlib.Core.List.{List, _∷_}
 use native.Mathlib.Omega.{arith}
-use lib.Dec.{ltb}
+use lib.Dec.{leb, ltb}
+use lib.ListN.{length}
 use borrow.Author.Tests.{ltb-true, ltb-false}
 use Rattle.notation.specs.ChoiceLaws.{both-true}
 use Rattle.refusals.specs.Refusals.{accepted}
+use Rattle.sizes.specs.Sizes.{variables, uses}
 use Rattle.clause_records.specs.ClauseRecords.{Rows, rows}
 use Rattle.events.specs.declared.Event.{Event}
 use Rattle.events.specs.declared.Event.the-variants.{Temp, Perm, Sets, Head, Args, Var, Anon, NonVar, Cut, Incr, Free, Safe, Give, Tail, Next, Open, Arm, Take, Close, Reset, Contents, ClearFree}
-use Rattle.events.specs.Events.{contextFits, inSize, isRecord, refusalBefore}
+use Rattle.events.specs.Events.{contextFits, isRecord, refusalBefore}
 use Rattle.allocator_state.specs.declared.Counters.{Counters}
 use Rattle.debray_allocator.specs.declared.State.{State}
 use Rattle.debray_allocator.specs.declared.Acted.{Acted}
@@ -23,7 +25,7 @@ use Rattle.valid_stays.specs.Fits.{Kinds, StateFits}
 use Rattle.refusals_given.specs.Given.{refusalsOf, carryingRefusals}
 use Rattle.refusals_given.specs.OfMarkVar.{var-marked-given, freed-given}
 use Rattle.refusals_given.specs.OfOtherMarks.{anon-marked-given, non-var-marked-given, cut-marked-given}
-use Rattle.refusals_given.specs.OfEvents.{before-given, perm-recorded-given, temp-recorded-given, give-given, incremented-given, open-given, arm-given, safe-given, close-given, take-given}
+use Rattle.refusals_given.specs.OfEvents.{unrefused-not-full, neither-second, before-given, perm-recorded-given, temp-recorded-given, give-given, incremented-given, open-given, arm-given, safe-given, close-given, take-given}
 
 -- P holds of 0 and of a row
 abbrev pub Row : (ℕ → Type 0) → Event → Type 0
@@ -74,8 +76,8 @@ module _ (P : ℕ → Type 0) (s : State) where
 
   -- the second row is part of the first
   carrying : (event : Event) → Row P event → CarryingRow P event
-  carrying (Temp context occurrences) (none, (order, (size, more))) = (none, more)
-  carrying (Perm occurrences) (none, (order, (size, more))) = (none, more)
+  carrying (Temp context occurrences) (none, more) = (none, tt)
+  carrying (Perm occurrences) (none, more) = (none, tt)
   carrying Sets row = row
   carrying Head (none, more) = (none, tt)
   carrying (Args count) (none, more) = (none, tt)
@@ -101,39 +103,43 @@ module _ (P : ℕ → Type 0) (s : State) where
     abbrev tables : Rows
     tables = rows (s .records) (s .«use_counts») (s .«no_use») (s .conflict)
 
-    carried : (event : Event) (list : List ℕ) → inSize (c .records) event list ≡ true → CarryingRow P event → P (carriedOut s event list .refusal)
-    carried (Temp context occurrences) list fit (none, (full, end)) =
-        temp-recorded-given P none full c tables (s .«use_sets») context occurrences list
-    carried (Perm occurrences) list fit (none, (full, end)) = perm-recorded-given P none full c tables occurrences
-    carried Sets list fit (none, end) = none
-    carried Head list fit (none, end) = none
-    carried (Args count) list fit (none, end) = none
-    carried (Var target level context v) list fit (none, (stop, (register, (slot, (full, end))))) =
-        let b = both-true (contextFits context) (ltb v (c .records)) fit in
+    carried :
+        (event : Event) (list : List ℕ) → refusalBefore c event list ≤ accepted → CarryingRow P event
+        → P (carriedOut s event list .refusal)
+    carried (Temp context occurrences) list unrefused (none, end) =
+        let room = neither-second (ltb uses (length list)) (leb variables (c .records)) (unrefused-not-full c (Temp context occurrences) list unrefused) in
+        temp-recorded-given P none c room tables (s .«use_sets») context occurrences list
+    carried (Perm occurrences) list unrefused (none, end) =
+        perm-recorded-given P none c (unrefused-not-full c (Perm occurrences) list unrefused) tables occurrences
+    carried Sets list unrefused (none, end) = none
+    carried Head list unrefused (none, end) = none
+    carried (Args count) list unrefused (none, end) = none
+    carried (Var target level context v) list unrefused (none, (stop, (register, (slot, (full, end))))) =
+        let b = both-true (contextFits context) (ltb v (c .records)) (unrefused-in-size c (Var target level context v) list unrefused) in
         var-marked-given P none stop register slot full k (setsOf s) (fits .uses)
         (record { target = target; level = level; context = context; variable = v })
         (omega (arith, ltb-true v (c .records) (b .1), fits .whole .counted .records)) (fits .whole)
-    carried (Anon target level context) list fit (none, (register, end)) =
+    carried (Anon target level context) list unrefused (none, (register, end)) =
         anon-marked-given P none register (s .records) (s .mappings) (setsOf s) (s .«freed_registers») target level context c
-    carried (NonVar level context cell) list fit (none, (register, end)) =
+    carried (NonVar level context cell) list unrefused (none, (register, end)) =
         non-var-marked-given P none register (s .records) (s .mappings) (setsOf s) (s .«freed_registers») level context cell c
-    carried (Cut v chunk) list fit (none, (register, (slot, end))) =
+    carried (Cut v chunk) list unrefused (none, (register, (slot, end))) =
         cut-marked-given P none register slot c (s .records) (s .«freed_slots») (s .«freed_registers») v chunk
-    carried (Incr v) list fit (none, (full, end)) = incremented-given P none full (s .records) v
-    carried (Free chunk v) list fit (none, (full, end)) = freed-given P none full c (s .records) (s .«freed_slots») chunk v
-    carried (Safe v) list fit (none, (stop, end)) = safe-given P none stop (s .records) (s .«branch_rows») (c .«open_branches») v
-    carried (Give r) list fit (none, (full, end)) = give-given P none full c (s .«freed_registers») r
-    carried (Tail tail) list fit (none, end) = none
-    carried Next list fit (none, end) = none
-    carried (Open start span arms) list fit (none, (full, end)) =
+    carried (Incr v) list unrefused (none, (full, end)) = incremented-given P none full (s .records) v
+    carried (Free chunk v) list unrefused (none, (full, end)) = freed-given P none full c (s .records) (s .«freed_slots») chunk v
+    carried (Safe v) list unrefused (none, (stop, end)) = safe-given P none stop (s .records) (s .«branch_rows») (c .«open_branches») v
+    carried (Give r) list unrefused (none, (full, end)) = give-given P none full c (s .«freed_registers») r
+    carried (Tail tail) list unrefused (none, end) = none
+    carried Next list unrefused (none, end) = none
+    carried (Open start span arms) list unrefused (none, (full, end)) =
         open-given P none full c (s .«branch_rows») (s .«branch_sets») start span arms
-    carried (Arm start span) list fit (none, (stop, (full, end))) = arm-given P none full stop c (s .«branch_rows») (s .«branch_sets») start span
-    carried Take list fit (none, (stop, end)) = take-given P none stop k (fits .whole)
-    carried (Close depth) list fit (none, (stop, end)) =
+    carried (Arm start span) list unrefused (none, (stop, (full, end))) = arm-given P none full stop c (s .«branch_rows») (s .«branch_sets») start span
+    carried Take list unrefused (none, (stop, end)) = take-given P none stop k (fits .whole)
+    carried (Close depth) list unrefused (none, (stop, end)) =
         close-given P none stop c (s .records) (s .«branch_rows») (s .«branch_sets») depth list
-    carried Reset list fit (none, end) = none
-    carried Contents list fit (none, end) = none
-    carried ClearFree list fit (none, end) = none
+    carried Reset list unrefused (none, end) = none
+    carried Contents list unrefused (none, end) = none
+    carried ClearFree list unrefused (none, end) = none
 
     abbrev AnswerGiven : Answer → Type 0
     AnswerGiven a = P (a .refusal)
@@ -149,7 +155,7 @@ module _ (P : ℕ → Type 0) (s : State) where
           let refusal = refusalBefore c event list in
           by-test AnswerGiven (ltb 0 refusal) (λ e. first)
           (λ e. seen-given (carriedOut s event list) event
-          (carried event list (unrefused-in-size c event list (ltb-false 0 refusal e)) row))
+          (carried event list (ltb-false 0 refusal e) row))
 
       -- by what refuses it before, and by what refuses it while it is carried out
       pub stepped-by : P (stepped s event list .refusal)
