@@ -237,11 +237,11 @@ module _ (s : State) (full : Full s) (valid : isValid s ≡ true) (event : Event
 
 -- ---- A sheet as a whole: 7 for its length, first of all, and 9 for the room, last of all
 
-abbrev lineIn : Answered → ℕ
+abbrev pub lineIn : Answered → ℕ
 lineIn (Written count) = 0
 lineIn (Refused line refusal) = line
 
-abbrev refusalIn : Answered → ℕ
+abbrev pub refusalIn : Answered → ℕ
 refusalIn (Written count) = 0
 refusalIn (Refused line refusal) = refusal
 

@@ -8,3 +8,4 @@ pub mod OfSteps
 pub mod RefusalsGiven
 pub mod Exactly
 pub mod CarriedExactly
+pub mod CheckExactly
