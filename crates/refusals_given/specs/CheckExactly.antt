@@ -1,5 +1,5 @@
--- A line of a check sheet: it is given 2 exactly if it is out of order; in order, 3 exactly if a number is outside its size;
--- then 7 exactly if it is one step or one instruction too many. And a check sheet: it is refused as a whole as 7 exactly if
+-- A line of a check sheet that is read is not given 1; it is given 2 exactly if it is out of order; in order, 3 exactly if a
+-- number is outside its size; then 7 exactly if it is one step or one instruction too many. And a check sheet: it is refused as a whole as 7 exactly if
 -- it is too long, and as 9 exactly if it is read and the word is longer than the room.
 use Prim.Native.Nat.{ℕ, suc, _≤_, _<_}
 use mathlib.Core.Path.{_≡_, refl, ap}
@@ -11,11 +11,11 @@ use lib.Dec.{eqb, ltb}
 use lib.ListN.{length}
 use borrow.Author.Tests.{ltb-true, ltb-false, lt-ltb, le-ltb}
 use Rattle.notation.specs.Choice.{if_then_else_}
-use Rattle.refusals.specs.Refusals.{accepted, refusedOrder, refusedSize, refusedFull, refusedRoom}
+use Rattle.refusals.specs.Refusals.{accepted, refusedForm, refusedOrder, refusedSize, refusedFull, refusedRoom}
 use Rattle.sizes.specs.Sizes.{sheetBytes}
 use Rattle.split.specs.Split.{lineFeed, split}
 use Rattle.answered.specs.declared.Answered.{Answered}
-use Rattle.answered.specs.declared.Answered.the-variants.{Written, Refused}
+use Rattle.answered.specs.declared.Answered.the-variants.{Refused}
 use Rattle.steps.specs.declared.Order.{Order}
 use Rattle.steps.specs.declared.CheckLine.{CheckLine}
 use Rattle.steps.specs.Steps.{goalStep, isOutOfOrder, fits, isFull, refusalOf, refusalAtEnd, freshOrder, judgedAs, judged}
@@ -50,7 +50,17 @@ full-last false false c h i = absurd (false≢true i)
 full-last false true true h i = (λ e. refl, λ e. refl)
 full-last false true false h i = (λ e. absurd (omega arith), λ e. absurd (false≢true e))
 
+form-never : (a b c : Bool) → firstOf a b c ≡ refusedForm → ⊥
+form-never true b c = λ e. omega arith
+form-never false true true = λ e. omega arith
+form-never false true false = λ e. omega arith
+form-never false false c = λ e. omega arith
+
 module _ (order : Order) (line : CheckLine) where
+  pub form-otherwise : judged order line .refusal ≡ refusedForm → ⊥
+  unfolding judged judgedAs refusalOf
+  form-otherwise = form-never (isOutOfOrder order line) (fits line) (isFull order line)
+
   pub order-exactly : (judged order line .refusal ≡ refusedOrder) ↔ (isOutOfOrder order line ≡ true)
   unfolding judged judgedAs refusalOf
   order-exactly = order-first (isOutOfOrder order line) (fits line) (isFull order line)
