@@ -61,7 +61,7 @@ enum FenomiraskRefusal {
     FENOMIRASK_NO_SLOT = 6,
     /* a table, list, queue, count or sheet is full */
     FENOMIRASK_FULL = 7,
-    /* any other `unreachable` arm of a mark is met */
+    /* any other `unreachable` arm of a mark is met: never given, as is proved */
     FENOMIRASK_UNREACHABLE_MARK = 8,
     /* the output is longer than the lent part; found last, so a sheet that is refused otherwise never meets it */
     FENOMIRASK_NO_ROOM = 9

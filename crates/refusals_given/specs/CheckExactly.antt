@@ -1,6 +1,6 @@
 -- A line of a check sheet that is read is not given 1; it is given 2 exactly if it is out of order; in order, 3 exactly if a
--- number is outside its size; then 7 exactly if it is one step or one instruction too many. And a check sheet: it is refused as a whole as 7 exactly if
--- it is too long, and as 9 exactly if it is read and the word is longer than the room.
+-- number is outside its size; then 7 exactly if it is one step or one instruction too many. And a check sheet: it is refused
+-- as a whole as 7 exactly if it is too long, and as 9 exactly if it is read and the word is longer than the room.
 use Prim.Native.Nat.{ℕ, suc, _≤_, _<_}
 use mathlib.Core.Path.{_≡_, refl, ap}
 use mathlib.Core.Logic.{_↔_}
