@@ -2,6 +2,8 @@
 // for each field its number, or `-` where it is none; then, each behind a tab, the registers among the numbers, least
 // first. A line whose answer finds no room in 4,096 bytes is answered `full`.
 use bit_set::BitSet;
+use inputs::AT_THE_END;
+use libc::STDERR_FILENO;
 use libc::STDIN_FILENO;
 use libc::STDOUT_FILENO;
 use numbers::Number;
@@ -86,12 +88,19 @@ fn show_line(out: &mut [u8], line: &[u8]) -> usize {
     printing::put_byte(out, next, LINE_FEED)
 }
 
+// Writes a text to standard output; standard error says where that failed.
+fn write(text: &[u8]) {
+    if !io::write_all(STDOUT_FILENO, text) {
+        io::write_all(STDERR_FILENO, b"leaves: an answer was not written whole\n");
+    }
+}
+
 // Writes the answer that ends at `end`, or `full` where it found no room.
 fn say(answer: &[u8], end: usize) {
     if end <= answer.len() {
-        io::write_all(STDOUT_FILENO, &answer[0..end]);
+        write(&answer[0..end]);
     } else {
-        io::write_all(STDOUT_FILENO, b"full\n");
+        write(b"full\n");
     }
 }
 
@@ -111,6 +120,15 @@ fn show_lines(sheet: &[u8]) {
 
 fn main() {
     let mut input = [0u8; SHEET_BYTES];
-    let n = io::read_full(STDIN_FILENO, &mut input);
-    show_lines(&input[..n]);
+    let came = io::read_full(STDIN_FILENO, &mut input);
+    let mut byte = [0u8; 1];
+    let further = libc::read(STDIN_FILENO, &mut byte);
+    if further == AT_THE_END {
+        show_lines(&input[..came]);
+    } else {
+        io::write_all(
+            STDERR_FILENO,
+            b"leaves: no answer, since the input did not come whole\n",
+        );
+    }
 }

@@ -4,6 +4,8 @@
 // those of its answer; behind it the sheet; behind that the answer, as the program for this kind prints it. Printed are
 // the numbers of the sheets that differ, from 1, and at the end how many sheets there were and how many differ. An input
 // that is not of this form is given up at the first sheet that shows it.
+use inputs::AT_THE_END;
+use libc::STDERR_FILENO;
 use libc::STDIN_FILENO;
 use libc::STDOUT_FILENO;
 use numbers::Number;
@@ -35,6 +37,7 @@ enum Next {
 enum Lead {
     Sheet(Kind, u32, u32),
     End,
+    Unread,
     Malformed,
 }
 
@@ -43,6 +46,7 @@ enum Verdict {
     Same,
     Differs,
     End,
+    Unread,
     Malformed,
 }
 
@@ -55,10 +59,20 @@ fn next_byte() -> Next {
     Next::Byte(byte[0])
 }
 
-// Where the input ends in a line, after so many bytes of it.
+// Where no byte came: the input ended only if a further read says so.
+fn ended() -> Lead {
+    let mut byte = [0u8; 1];
+    let further = libc::read(STDIN_FILENO, &mut byte);
+    if further == AT_THE_END {
+        return Lead::End;
+    }
+    Lead::Unread
+}
+
+// Where no byte came in a line, after so many bytes of it.
 fn ended_after(bytes: usize) -> Lead {
     if bytes == 0 {
-        return Lead::End;
+        return ended();
     }
     Lead::Malformed
 }
@@ -167,34 +181,47 @@ fn replay(kind: Kind, sheet_bytes: usize, answer_bytes: usize) -> Verdict {
 fn replay_next() -> Verdict {
     match read_lead() {
         Lead::End => Verdict::End,
+        Lead::Unread => Verdict::Unread,
         Lead::Malformed => Verdict::Malformed,
         Lead::Sheet(kind, sheet, answer) => replay(kind, sheet as usize, answer as usize),
     }
 }
 
-fn say_number(n: u32) {
-    io::print_decimal(STDOUT_FILENO, n as u64);
+// Writes a number; whether that was written.
+fn write_number(n: u32) -> bool {
+    io::print_decimal(STDOUT_FILENO, n as u64)
+}
+
+// Says where a line was not written.
+fn told(written: bool) {
+    if !written {
+        io::write_all(STDERR_FILENO, b"replays: an answer was not written whole\n");
+    }
 }
 
 // Says that a sheet differs.
 fn say_differs(number: u32) {
-    say_number(number);
-    io::write_all(STDOUT_FILENO, b"\n");
+    told(write_number(number) && io::write_all(STDOUT_FILENO, b"\n"));
 }
 
 // Says that a sheet is none.
 fn say_malformed(number: u32) {
-    io::write_all(STDOUT_FILENO, b"malformed: sheet ");
-    say_number(number);
-    io::write_all(STDOUT_FILENO, b"\n");
+    let named = io::write_all(STDOUT_FILENO, b"malformed: sheet ");
+    told(named && write_number(number) && io::write_all(STDOUT_FILENO, b"\n"));
+}
+
+// Says that the input did not come whole.
+fn say_unread() {
+    io::write_all(
+        STDERR_FILENO,
+        b"replays: no answer, since the input did not come whole\n",
+    );
 }
 
 // Says how many sheets there were and how many differ.
 fn say_counts(sheets: u32, differ: u32) {
-    say_number(sheets);
-    io::write_all(STDOUT_FILENO, b" sheets, ");
-    say_number(differ);
-    io::write_all(STDOUT_FILENO, b" differ\n");
+    let counted = write_number(sheets) && io::write_all(STDOUT_FILENO, b" sheets, ");
+    told(counted && write_number(differ) && io::write_all(STDOUT_FILENO, b" differ\n"));
 }
 
 fn main() {
@@ -205,6 +232,10 @@ fn main() {
         match verdict {
             Verdict::End => {
                 say_counts(sheets, differ);
+                return;
+            }
+            Verdict::Unread => {
+                say_unread();
                 return;
             }
             Verdict::Malformed => {

@@ -9,12 +9,8 @@ ghost use Rattle.replies.specs.Replies.{
   Told,
 };
 use answered::Answered;
-use sizes::SHEET_BYTES;
 use split::LINE_FEED;
 use split::TAB;
-
-// As many bytes as a program reads: with one more than a sheet may have, a sheet is too long, whatever follows.
-pub const INPUT_BYTES: usize = SHEET_BYTES + 1;
 
 // The line of a refusal: `no`, the line and the refusal's number.
 pub fn put_refusal(out: &mut [u8], at: usize, line: u32, refusal: u32) -> usize

@@ -17,6 +17,8 @@ use evacuation::RegisterSets;
 use events::Event;
 use forms::GenContext;
 use forms::Level;
+use inputs::AT_THE_END;
+use libc::STDERR_FILENO;
 use libc::STDIN_FILENO;
 use libc::STDOUT_FILENO;
 use numbers::Number;
@@ -610,12 +612,19 @@ fn put_end(out: &mut [u8], at: usize, counters: Counters) -> usize {
     put_pair(out, at, b"end", registers, before(counters.perm_lb))
 }
 
+// Writes a text to standard output; standard error says where that failed.
+fn write(text: &[u8]) {
+    if !io::write_all(STDOUT_FILENO, text) {
+        io::write_all(STDERR_FILENO, b"states: an answer was not written whole\n");
+    }
+}
+
 // Writes what was put up to `end`; if it found no room, a line that no clause comes to.
 fn say(text: &[u8], end: usize) {
     if end <= text.len() {
-        io::write_all(STDOUT_FILENO, &text[0..end]);
+        write(&text[0..end]);
     } else {
-        io::write_all(STDOUT_FILENO, b"full\n");
+        write(b"full\n");
     }
 }
 
@@ -679,6 +688,15 @@ fn take_lines(input: &[u8]) {
 
 fn main() {
     let mut input = [0u8; INPUT_BYTES];
-    let n = io::read_full(STDIN_FILENO, &mut input);
-    take_lines(&input[..n]);
+    let came = io::read_full(STDIN_FILENO, &mut input);
+    let mut byte = [0u8; 1];
+    let further = libc::read(STDIN_FILENO, &mut byte);
+    if further == AT_THE_END {
+        take_lines(&input[..came]);
+    } else {
+        io::write_all(
+            STDERR_FILENO,
+            b"states: no answer, since the input did not come whole\n",
+        );
+    }
 }

@@ -28,11 +28,8 @@ returns c = search needs
 enum-told-2 : tie.Need-enum-told-2 Inv-loop μ-loop
 enum-told-2 c = search needs
 
-add-say-malformed : tie.Need-add-say-malformed Inv-loop μ-loop
-add-say-malformed c = search needs
-
-say-malformed-requires : tie.Need-say-malformed-requires Inv-loop μ-loop
-say-malformed-requires c κs = search needs
+say-unread-requires : tie.Need-say-unread-requires Inv-loop μ-loop
+say-unread-requires c κs = search needs
 
 returns-2 : tie.Need-returns-2 Inv-loop μ-loop
 returns-2 c = search needs
@@ -40,8 +37,20 @@ returns-2 c = search needs
 enum-told-3 : tie.Need-enum-told-3 Inv-loop μ-loop
 enum-told-3 c = search needs
 
+add-say-malformed : tie.Need-add-say-malformed Inv-loop μ-loop
+add-say-malformed c = search needs
+
+say-malformed-requires : tie.Need-say-malformed-requires Inv-loop μ-loop
+say-malformed-requires c κs = search needs
+
+returns-3 : tie.Need-returns-3 Inv-loop μ-loop
+returns-3 c = search needs
+
 enum-told-4 : tie.Need-enum-told-4 Inv-loop μ-loop
 enum-told-4 c = search needs
+
+enum-told-5 : tie.Need-enum-told-5 Inv-loop μ-loop
+enum-told-5 c = search needs
 
 add-say-differs : tie.Need-add-say-differs Inv-loop μ-loop
 add-say-differs c = search needs
@@ -61,8 +70,8 @@ loop-less c = search needs
 loop-again : tie.Need-loop-again Inv-loop μ-loop
 loop-again c = search needs
 
-returns-3 : tie.Need-returns-3 Inv-loop μ-loop
-returns-3 c = search needs
+returns-4 : tie.Need-returns-4 Inv-loop μ-loop
+returns-4 c = search needs
 
 pub main-spec : {M : Type 1} → statement M
 main-spec =
@@ -76,15 +85,18 @@ main-spec =
     say-counts-requires
     returns
     enum-told-2
-    add-say-malformed
-    say-malformed-requires
+    say-unread-requires
     returns-2
     enum-told-3
+    add-say-malformed
+    say-malformed-requires
+    returns-3
     enum-told-4
+    enum-told-5
     add-say-differs
     say-differs-requires
     wrapping-add-u32-requires
     add-sheets
     loop-less
     loop-again
-    returns-3)
+    returns-4)
