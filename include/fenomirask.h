@@ -76,9 +76,10 @@ enum {
     FENOMIRASK_CHECK_ROOM = 9,
     /* No event prints more, nor does fenomirask_end. */
     FENOMIRASK_EVENT_ROOM = 256,
-    /* A thread with so much stack may call. fenomirask_events takes about 340 KB of it, fenomirask_check about 70, and
-     * fenomirask_event as much as fenomirask_events; a thread that may call it may call fenomirask_fresh and
-     * fenomirask_end. */
+    /* A thread with so much stack may call. fenomirask_events takes about 340 KB of it, for a short sheet too,
+     * fenomirask_check about 70, and fenomirask_event as much as fenomirask_events; a thread that may call it may call
+     * fenomirask_fresh and fenomirask_end. Look at what your threads have: with musl a thread has 128 KiB unless it asks
+     * for more (pthread_attr_setstacksize), which is enough for fenomirask_check alone. */
     FENOMIRASK_EVENTS_STACK = 393216,
     FENOMIRASK_CHECK_STACK = 98304,
     FENOMIRASK_EVENT_STACK = 393216,
