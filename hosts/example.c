@@ -79,9 +79,13 @@ int main(int count, char **words)
         return 2;
     }
     answer = modes[mode].answer(sheet, sheet_bytes, out, sizeof out);
-    if (FENOMIRASK_REFUSED(answer)) {
+    if (FENOMIRASK_REFUSED(answer))
         printf("line %zu: %s\n", FENOMIRASK_LINE(answer), refusals[FENOMIRASK_REFUSAL(answer)]);
-        return 1;
+    else
+        fwrite(out, 1, (size_t)answer, stdout);
+    if (fflush(stdout) != 0 || ferror(stdout)) {
+        perror("example");
+        return 2;
     }
-    return fwrite(out, 1, (size_t)answer, stdout) == (size_t)answer && fflush(stdout) == 0 ? 0 : 2;
+    return FENOMIRASK_REFUSED(answer) ? 1 : 0;
 }

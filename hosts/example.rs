@@ -6,6 +6,7 @@
 //! Prints the answer, or the line and the refusal in words; exit 0 with an answer, 1 with a refusal, 2 with neither.
 use std::fs::File;
 use std::io::{self, Read, Write};
+use std::os::fd::{AsFd, BorrowedFd};
 use std::process::exit;
 
 #[allow(dead_code)] // a host needs not use all of it
@@ -20,6 +21,13 @@ fn read(source: impl Read) -> io::Result<Vec<u8>> {
         .take(fenomirask::SHEET_BYTES as u64 + 1)
         .read_to_end(&mut sheet)?;
     Ok(sheet)
+}
+
+/// A standard stream as a file. Rust's own `Stdin` reads nothing where the stream is not open for reading, and its `Stdout`
+/// says that all was written where it is not open for writing; a file tells both. A stream that is closed before the start
+/// is the null device by the time that `main` runs: then the sheet is an empty one.
+fn file(stream: BorrowedFd) -> io::Result<File> {
+    stream.try_clone_to_owned().map(File::from)
 }
 
 /// The answer to an event sheet, as that of `fenomirask::events`.
@@ -56,12 +64,12 @@ fn run(words: &[String]) -> io::Result<i32> {
     };
     let sheet = match words.get(1) {
         Some(path) => read(File::open(path)?)?,
-        None => read(io::stdin())?,
+        None => read(file(io::stdin().as_fd())?)?,
     };
-    let mut out = vec![0; 1 << 20];
+    let (mut out, mut printed) = (vec![0; 1 << 20], file(io::stdout().as_fd())?);
     match answer(&sheet, &mut out) {
-        Ok(written) => io::stdout().write_all(&out[..written]).map(|()| 0),
-        Err(refused) => writeln!(io::stdout(), "{refused}").map(|()| 1),
+        Ok(written) => printed.write_all(&out[..written]).map(|()| 0),
+        Err(refused) => writeln!(printed, "{refused}").map(|()| 1),
     }
 }
 
