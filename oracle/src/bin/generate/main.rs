@@ -2,6 +2,7 @@
 
 mod clauses;
 mod damage;
+mod driven;
 mod fields;
 mod large;
 mod limits;
@@ -12,7 +13,7 @@ mod wild;
 use judging::generator::{self, Kinds, WriteSheet};
 use std::process::ExitCode;
 
-const USAGE: &str = "generate --seed S --count N [--clauses]";
+const USAGE: &str = "generate --seed S --count N [--clauses | --driven]";
 
 /// The kinds of sheet, each as often as its weight says.
 const KINDS: [(usize, WriteSheet); 7] = [
@@ -25,11 +26,12 @@ const KINDS: [(usize, WriteSheet); 7] = [
     (6, |random| large::sheet(random).into_bytes()),
 ];
 
-/// Every kind, or clauses alone.
+/// Every kind, or clauses alone: those of the first kind, or clauses with tests.
 fn named_kinds(words: &[&str]) -> Option<Kinds> {
     match words {
         [] => Some(KINDS.to_vec()),
         ["--clauses"] => Some(KINDS[..1].to_vec()),
+        ["--driven"] => Some(vec![(1, |random| driven::driven(random).into_bytes())]),
         _ => None,
     }
 }
