@@ -216,26 +216,7 @@ pub fn is_record(event: Event) -> bool
     match event {
         Event::Temp(_, _) => true,
         Event::Perm(_) => true,
-        Event::Sets => false,
-        Event::Head => false,
-        Event::Args(_) => false,
-        Event::Var(_, _, _, _) => false,
-        Event::Anon(_, _, _) => false,
-        Event::NonVar(_, _, _) => false,
-        Event::Cut(_, _) => false,
-        Event::Incr(_) => false,
-        Event::Free(_, _) => false,
-        Event::Safe(_) => false,
-        Event::Give(_) => false,
-        Event::Tail(_) => false,
-        Event::Next => false,
-        Event::Open(_, _, _) => false,
-        Event::Arm(_, _) => false,
-        Event::Take => false,
-        Event::Close(_) => false,
-        Event::Reset => false,
-        Event::Contents => false,
-        Event::ClearFree => false,
+        _ => false,
     }
 }
 
@@ -243,21 +224,21 @@ pub fn is_record(event: Event) -> bool
 fn refusal_by_size(counters: Counters, event: Event, list: &[u32]) -> u32
     ensures { λ r. ⌜ r ≡ refusalBySize counters event (now (list .entry)) ⌝ }
 {
-    if is_in_size(counters.records, event, list) {
-        if is_full(counters, event, list.len()) {
-            return refusals::FULL;
-        }
-        return refusals::ACCEPTED;
+    match is_in_size(counters.records, event, list) {
+        true => match is_full(counters, event, list.len()) {
+            true => refusals::FULL,
+            false => refusals::ACCEPTED,
+        },
+        false => refusals::SIZE,
     }
-    refusals::SIZE
 }
 
 // The refusal of a line before it is carried out: a record after an event, then the sizes, then what is full.
 pub fn refusal_before(counters: Counters, event: Event, list: &[u32]) -> u32
     ensures { λ r. ⌜ r ≡ refusalBefore counters event (now (list .entry)) ⌝ }
 {
-    if sizes::both(is_record(event), 0 < counters.events_seen) {
-        return refusals::ORDER;
+    match sizes::both(is_record(event), 0 < counters.events_seen) {
+        true => refusals::ORDER,
+        false => refusal_by_size(counters, event, list),
     }
-    refusal_by_size(counters, event, list)
 }

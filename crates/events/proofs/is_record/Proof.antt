@@ -1,5 +1,15 @@
 -- `events::is_record`: each way of the code is a case of the definition. Assumes nothing.
+use Prim.Native.Nat.{ℕ}
+use mathlib.Core.Path.{_≡_, refl}
+use mathlib.Core.Bool.{false}
+use mathlib.Core.List.{List, [], _∷_}
+use types.Run.{OneOf, miss}
+use denote.Enum.Declared.{tagOf}
 use borrow.Author.Needs.{needs}
+use Rattle.events.specs.declared.Event.{Event}
+use Rattle.events.specs.declared.Event.the-variants.{Temp, Perm, Sets, Head, Args, Var, Anon, NonVar, Cut, Incr, Free, Safe, Give, Tail, Next, Open, Arm, Take, Close, Reset, Contents, ClearFree}
+use Rattle.events.specs.Events.{isRecord}
+use Rattle.events.proofs.Event.{the-type}
 use Rattle.events.proofs.is_record.Tie as tie
 use Rattle.events.proofs.is_record.Statement.{statement}
 
@@ -9,177 +19,42 @@ enum-told c = search needs
 enum-told-2 : tie.Need-enum-told-2
 enum-told-2 c = search needs
 
-enum-told-3 : tie.Need-enum-told-3
-enum-told-3 c = search needs
-
-enum-told-4 : tie.Need-enum-told-4
-enum-told-4 c = search needs
-
-enum-told-5 : tie.Need-enum-told-5
-enum-told-5 c = search needs
-
-enum-told-6 : tie.Need-enum-told-6
-enum-told-6 c = search needs
-
-enum-told-7 : tie.Need-enum-told-7
-enum-told-7 c = search needs
-
-enum-told-8 : tie.Need-enum-told-8
-enum-told-8 c = search needs
-
-enum-told-9 : tie.Need-enum-told-9
-enum-told-9 c = search needs
-
-enum-told-10 : tie.Need-enum-told-10
-enum-told-10 c = search needs
-
-enum-told-11 : tie.Need-enum-told-11
-enum-told-11 c = search needs
-
-enum-told-12 : tie.Need-enum-told-12
-enum-told-12 c = search needs
-
-enum-told-13 : tie.Need-enum-told-13
-enum-told-13 c = search needs
-
-enum-told-14 : tie.Need-enum-told-14
-enum-told-14 c = search needs
-
-enum-told-15 : tie.Need-enum-told-15
-enum-told-15 c = search needs
-
-enum-told-16 : tie.Need-enum-told-16
-enum-told-16 c = search needs
-
-enum-told-17 : tie.Need-enum-told-17
-enum-told-17 c = search needs
-
-enum-told-18 : tie.Need-enum-told-18
-enum-told-18 c = search needs
-
-enum-told-19 : tie.Need-enum-told-19
-enum-told-19 c = search needs
-
-enum-told-20 : tie.Need-enum-told-20
-enum-told-20 c = search needs
-
-enum-told-21 : tie.Need-enum-told-21
-enum-told-21 c = search needs
-
-enum-told-22 : tie.Need-enum-told-22
-enum-told-22 c = search needs
-
 returns : tie.Need-returns
 returns c = simp (c .enum-told .given .1)
 
 returns-2 : tie.Need-returns-2
 returns-2 c = simp (c .enum-told2 .given .1)
 
+-- the variants behind the first two, by their numbers
+abbrev others : List ℕ
+others = 2 ∷ 3 ∷ 4 ∷ 5 ∷ 6 ∷ 7 ∷ 8 ∷ 9 ∷ 10 ∷ 11 ∷ 12 ∷ 13 ∷ 14 ∷ 15 ∷ 16 ∷ 17 ∷ 18 ∷ 19 ∷ 20 ∷ 21 ∷ []
+
+not-record : (event : Event) → OneOf others (tagOf the-type event) → false ≡ isRecord event
+not-record (Temp context occurrences) h = absurd (miss others 0 _ h)
+not-record (Perm occurrences) h = absurd (miss others 1 _ h)
+not-record Sets h = refl
+not-record Head h = refl
+not-record (Args count) h = refl
+not-record (Var target level context v) h = refl
+not-record (Anon target level context) h = refl
+not-record (NonVar level context cell) h = refl
+not-record (Cut v chunk) h = refl
+not-record (Incr v) h = refl
+not-record (Free chunk v) h = refl
+not-record (Safe v) h = refl
+not-record (Give r) h = refl
+not-record (Tail tail) h = refl
+not-record Next h = refl
+not-record (Open start span arms) h = refl
+not-record (Arm start span) h = refl
+not-record Take h = refl
+not-record (Close depth) h = refl
+not-record Reset h = refl
+not-record Contents h = refl
+not-record ClearFree h = refl
+
 returns-3 : tie.Need-returns-3
-returns-3 c = simp (c .enum-told3 .given .1)
-
-returns-4 : tie.Need-returns-4
-returns-4 c = simp (c .enum-told4 .given .1)
-
-returns-5 : tie.Need-returns-5
-returns-5 c = simp (c .enum-told5 .given .1)
-
-returns-6 : tie.Need-returns-6
-returns-6 c = simp (c .enum-told6 .given .1)
-
-returns-7 : tie.Need-returns-7
-returns-7 c = simp (c .enum-told7 .given .1)
-
-returns-8 : tie.Need-returns-8
-returns-8 c = simp (c .enum-told8 .given .1)
-
-returns-9 : tie.Need-returns-9
-returns-9 c = simp (c .enum-told9 .given .1)
-
-returns-10 : tie.Need-returns-10
-returns-10 c = simp (c .enum-told10 .given .1)
-
-returns-11 : tie.Need-returns-11
-returns-11 c = simp (c .enum-told11 .given .1)
-
-returns-12 : tie.Need-returns-12
-returns-12 c = simp (c .enum-told12 .given .1)
-
-returns-13 : tie.Need-returns-13
-returns-13 c = simp (c .enum-told13 .given .1)
-
-returns-14 : tie.Need-returns-14
-returns-14 c = simp (c .enum-told14 .given .1)
-
-returns-15 : tie.Need-returns-15
-returns-15 c = simp (c .enum-told15 .given .1)
-
-returns-16 : tie.Need-returns-16
-returns-16 c = simp (c .enum-told16 .given .1)
-
-returns-17 : tie.Need-returns-17
-returns-17 c = simp (c .enum-told17 .given .1)
-
-returns-18 : tie.Need-returns-18
-returns-18 c = simp (c .enum-told18 .given .1)
-
-returns-19 : tie.Need-returns-19
-returns-19 c = simp (c .enum-told19 .given .1)
-
-returns-20 : tie.Need-returns-20
-returns-20 c = simp (c .enum-told20 .given .1)
-
-returns-21 : tie.Need-returns-21
-returns-21 c = simp (c .enum-told21 .given .1)
-
-returns-22 : tie.Need-returns-22
-returns-22 c = simp (c .enum-told22 .given .1)
+returns-3 c = not-record (c .before .args .event) (c .match .keys3)
 
 pub is-record-spec : {M : Type 1} → statement M
-is-record-spec =
-    tie.close
-    (tie.spec
-    enum-told
-    enum-told-2
-    enum-told-3
-    enum-told-4
-    enum-told-5
-    enum-told-6
-    enum-told-7
-    enum-told-8
-    enum-told-9
-    enum-told-10
-    enum-told-11
-    enum-told-12
-    enum-told-13
-    enum-told-14
-    enum-told-15
-    enum-told-16
-    enum-told-17
-    enum-told-18
-    enum-told-19
-    enum-told-20
-    enum-told-21
-    enum-told-22
-    returns
-    returns-2
-    returns-3
-    returns-4
-    returns-5
-    returns-6
-    returns-7
-    returns-8
-    returns-9
-    returns-10
-    returns-11
-    returns-12
-    returns-13
-    returns-14
-    returns-15
-    returns-16
-    returns-17
-    returns-18
-    returns-19
-    returns-20
-    returns-21
-    returns-22)
+is-record-spec = tie.close (tie.spec enum-told enum-told-2 returns returns-2 returns-3)

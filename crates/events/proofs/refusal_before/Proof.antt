@@ -10,12 +10,12 @@ is-record-requires c κs = search needs
 both-requires : tie.Need-both-requires
 both-requires c κs = search needs
 
+refusal-by-size-requires : tie.Need-refusal-by-size-requires
+refusal-by-size-requires c κs = search needs
+
 returns : tie.Need-returns
 unfolding refusalBefore
 returns c = simp (← c .before .before .before .is-record .ensures, ← c .before .both .ensures, c .if1 .taken)
-
-refusal-by-size-requires : tie.Need-refusal-by-size-requires
-refusal-by-size-requires c κs = search needs
 
 returns-2 : tie.Need-returns-2
 unfolding refusalBefore
@@ -24,4 +24,4 @@ returns-2 c = simp (← c .before .before .before .before .is-record .ensures, �
 pub refusal-before-spec : {M : Type 1} → statement M
 refusal-before-spec =
     tie.close
-    (tie.spec is-record-requires both-requires returns refusal-by-size-requires returns-2)
+    (tie.spec is-record-requires both-requires refusal-by-size-requires returns returns-2)
