@@ -1,12 +1,15 @@
--- Laws of entries: what is outside its size is refused by it, and nothing else is.
+-- Laws of fields that are one letter, and of entries: what is outside its size is refused by it, and nothing else is.
 use Prim.Native.Nat.{ℕ, _≤_}
-use mathlib.Core.Path.{_≡_, refl}
+use mathlib.Core.Path.{_≡_, refl, sym}
+use mathlib.Core.List.{List, [], _∷_}
 use mathlib.Core.Bool.{true, false, _&&_}
 use native.Mathlib.Omega.{arith}
-use lib.Dec.{leb, ltb}
+use lib.Dec.{eqb, leb, ltb}
+use lib.ListN.{length, getD}
 use borrow.Author.Tests.{le-leb, leb-true, le-ltb, ltb-true, ltb-false, ne-eqb}
 use Rattle.notation.specs.Choice.{if_then_else_}
 use Rattle.notation.specs.ChoiceLaws.{both-true}
+use Rattle.words.specs.Words.{same}
 use Rattle.sizes.specs.Sizes.{variables, registers, chunks, isRegister, isChunk}
 use Rattle.forms.specs.declared.GenContext.{GenContext}
 use Rattle.forms.specs.declared.GenContext.the-variants.{Head, Mid, Last}
@@ -16,6 +19,39 @@ use Rattle.temp_var_data.specs.UsesLaws.{context-of-use, register-of-use}
 use Rattle.events.specs.declared.Entries.the-variants.{Arguments}
 use Rattle.events.specs.Events.{isContext, isUse, entryFits}
 use Rattle.event_fields.specs.EventFields.{codeIn, noUse, useIn, noSuchVariable, variableEntry}
+
+-- ---- Letters
+
+-- in the place of a field's one byte: no letter has that number
+abbrev pub noLetter : ℕ
+noLetter = 0
+
+-- the one byte of a field that has no other
+unfoldable pub onlyByte : List ℕ → ℕ
+onlyByte [] = noLetter
+onlyByte (c ∷ []) = c
+onlyByte (c ∷ (d ∷ ds)) = noLetter
+
+pub only-one : (field : List ℕ) → length field ≡ 1 → onlyByte field ≡ getD field 0 0
+unfolding onlyByte
+only-one [] h = refl
+only-one (c ∷ []) h = refl
+only-one (c ∷ (d ∷ ds)) h = absurd (omega arith)
+
+pub only-none : (field : List ℕ) → (length field ≡ 1 → ⊥) → onlyByte field ≡ noLetter
+unfolding onlyByte
+only-none [] h = refl
+only-none (c ∷ []) h = absurd (h refl)
+only-none (c ∷ (d ∷ ds)) h = refl
+
+-- a field is the word of one letter exactly if its one byte is that letter
+pub same-letter :
+    (letter : ℕ) → eqb noLetter letter ≡ false → (field : List ℕ) → same field (letter ∷ []) ≡ eqb (onlyByte field) letter
+unfolding onlyByte same
+same-letter letter h [] = sym h
+same-letter letter h (c ∷ []) = elim (eqb c letter) as (λ t. (t && true) ≡ t) [ true ↦ refl | false ↦ refl ]
+same-letter letter h (c ∷ (d ∷ ds)) =
+    elim (eqb c letter) as (λ t. (t && false) ≡ eqb noLetter letter) [ true ↦ sym h | false ↦ sym h ]
 
 -- ---- Uses
 

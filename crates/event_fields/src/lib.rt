@@ -15,6 +15,7 @@ ghost use Rattle.event_fields.specs.EventFields.{
   argumentOf,
   entryOf,
 };
+ghost use Rattle.event_fields.specs.EventFieldsLaws.{onlyByte};
 use events::Entries;
 use events::NO_VARIABLE;
 use forms::GenContext;
@@ -25,6 +26,8 @@ use targets::Target;
 
 // The mark between a use's context and its register.
 const COLON: u8 = b':';
+// In the place of a field's one byte: a number that is no letter.
+const NO_LETTER: u8 = 0;
 // In the place of a head's variable: a number that names none.
 const NO_SUCH_VARIABLE: u32 = NO_VARIABLE + 1;
 // In the place of a use: a register or a chunk that there is not.
@@ -45,33 +48,37 @@ pub enum ContextField {
     Malformed,
 }
 
+// The one byte of a field that has no other.
+fn only_byte(field: &[u8]) -> u8
+    ensures { λ r. ⌜ r ≡ onlyByte (now (field .entry)) ⌝ }
+{
+    if field.len() == 1 {
+        return field[0];
+    }
+    NO_LETTER
+}
+
 // The target: `f` or `q`.
 pub fn target_of(field: &[u8]) -> TargetField
     ensures { λ r. ⌜ r ≡ targetOf (now (field .entry)) ⌝ }
 {
-    if words::is(field, b"f") {
-        return TargetField::Of(Target::Fact);
+    match only_byte(field) {
+        b'f' => TargetField::Of(Target::Fact),
+        b'q' => TargetField::Of(Target::Query),
+        _ => TargetField::Malformed,
     }
-    if words::is(field, b"q") {
-        return TargetField::Of(Target::Query);
-    }
-    TargetField::Malformed
 }
 
 // The level: `r`, `s` or `d`.
 pub fn level_of(field: &[u8]) -> LevelField
     ensures { λ r. ⌜ r ≡ levelOf (now (field .entry)) ⌝ }
 {
-    if words::is(field, b"r") {
-        return LevelField::Of(Level::Root);
+    match only_byte(field) {
+        b'r' => LevelField::Of(Level::Root),
+        b's' => LevelField::Of(Level::Shallow),
+        b'd' => LevelField::Of(Level::Deep),
+        _ => LevelField::Malformed,
     }
-    if words::is(field, b"s") {
-        return LevelField::Of(Level::Shallow);
-    }
-    if words::is(field, b"d") {
-        return LevelField::Of(Level::Deep);
-    }
-    LevelField::Malformed
 }
 
 // The middle of a chunk.
@@ -98,19 +105,18 @@ fn in_last(chunk: Number) -> ContextField
 pub fn context_of(field: &[u8]) -> ContextField
     ensures { λ r. ⌜ r ≡ contextOf (now (field .entry)) ⌝ }
 {
-    if words::is(field, b"h") {
-        return ContextField::Of(GenContext::Head);
+    match only_byte(field) {
+        b'h' => ContextField::Of(GenContext::Head),
+        _ => {
+            let letter = only_byte(split::part_before(field, 1));
+            let chunk = numbers::read(split::part_after(field, 0));
+            match letter {
+                b'm' => in_mid(chunk),
+                b'l' => in_last(chunk),
+                _ => ContextField::Malformed,
+            }
+        }
     }
-    let letter = split::part_before(field, 1);
-    let number = split::part_after(field, 0);
-    let chunk = numbers::read(number);
-    if words::is(letter, b"m") {
-        return in_mid(chunk);
-    }
-    if words::is(letter, b"l") {
-        return in_last(chunk);
-    }
-    ContextField::Malformed
 }
 
 // The use of a register in a context, as one number.

@@ -1,41 +1,27 @@
--- `event_fields::target_of`: each way of the code is a case of the definition. Assumes nothing.
+-- `event_fields::target_of`: a field is one of the letters exactly if its one byte is. Assumes nothing.
+use mathlib.Core.Path.{refl}
 use borrow.Author.Needs.{needs}
+use borrow.Author.Tests.{ne-eqb}
+use Rattle.notation.specs.Text.{byte}
 use Rattle.event_fields.specs.EventFields.{targetOf}
+use Rattle.event_fields.specs.EventFieldsLaws.{same-letter}
 use Rattle.event_fields.proofs.target_of.Statement.{statement}
 use Rattle.event_fields.proofs.target_of.Tie as tie
 
-slice-aggregate-is : tie.Need-slice-aggregate-is
-slice-aggregate-is c = search needs
-
-is-requires : tie.Need-is-requires
-is-requires c κs = search needs
+only-byte-requires : tie.Need-only-byte-requires
+only-byte-requires c κs = search needs
 
 returns : tie.Need-returns
 unfolding targetOf
-returns c = simp (← c .before .is .ensures, c .if1 .taken)
-
-slice-aggregate-is-2 : tie.Need-slice-aggregate-is-2
-slice-aggregate-is-2 c = search needs
-
-is-requires-2 : tie.Need-is-requires-2
-is-requires-2 c κs = search needs
+returns c = simp (same-letter (byte "f") refl, ← c .before .only-byte .ensures, c .match .keys1)
 
 returns-2 : tie.Need-returns-2
 unfolding targetOf
-returns-2 c = simp (← c .before .before .before .before .is .ensures, c .before .before .before .if1 .left, ← c .before .is2 .ensures, c .if2 .taken)
+returns-2 c = simp (same-letter (byte "f") refl, same-letter (byte "q") refl, ← c .before .only-byte .ensures, c .match .keys2)
 
 returns-3 : tie.Need-returns-3
 unfolding targetOf
-returns-3 c = simp (← c .before .before .before .before .is .ensures, c .before .before .before .if1 .left, ← c .before .is2 .ensures, c .if2 .left)
+returns-3 c = simp (same-letter (byte "f") refl, same-letter (byte "q") refl, ← c .before .only-byte .ensures, ne-eqb _ _ (c .match .rest .0 .1), ne-eqb _ _ (c .match .rest .1))
 
 pub target-of-spec : {M : Type 1} → statement M
-target-of-spec =
-    tie.close
-    (tie.spec
-    slice-aggregate-is
-    is-requires
-    returns
-    slice-aggregate-is-2
-    is-requires-2
-    returns-2
-    returns-3)
+target-of-spec = tie.close (tie.spec only-byte-requires returns returns-2 returns-3)
