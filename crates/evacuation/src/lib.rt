@@ -15,7 +15,6 @@ use allocator_state::Counters;
 use bit_set::BitSet;
 use choice::Chosen;
 use code_deque::CodeDeque;
-use instructions::Instruction;
 use registers::RegType;
 use shallow_temp_mappings::Mappings;
 use sizes::VARIABLES;
@@ -128,7 +127,7 @@ fn move_to(
     moved.in_use = bit_set::insert(counters.in_use, r);
     Reached {
         counters: moved,
-        code: code_deque::push_back(code, Instruction::GetVariable(RegType::Temp(r), k)),
+        code: code_deque::push_back(code, targets::move_to_register(RegType::Temp(r), k)),
         refusal: refusals::ACCEPTED,
     }
 }

@@ -24,8 +24,8 @@ unsafeArgumentToValue Query (Perm p) k = PutUnsafeValue p k
 unsafeArgumentToValue Query (Temp r) k = PutValue (Temp r) k
 
 -- the same for both
-abbrev pub moveToRegister : Target → RegType → ℕ → Instruction
-moveToRegister target r k = GetVariable r k
+abbrev pub moveToRegister : RegType → ℕ → Instruction
+moveToRegister r k = GetVariable r k
 
 -- ---- For a subterm
 

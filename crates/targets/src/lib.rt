@@ -44,8 +44,8 @@ pub fn unsafe_argument_to_value(target: Target, r: RegType, k: u32) -> Instructi
 }
 
 // Argument `k`, moved to another place: the same for both.
-pub fn move_to_register(target: Target, r: RegType, k: u32) -> Instruction
-    ensures { λ i. ⌜ i ≡ moveToRegister target r k ⌝ }
+pub fn move_to_register(r: RegType, k: u32) -> Instruction
+    ensures { λ i. ⌜ i ≡ moveToRegister r k ⌝ }
 {
     Instruction::GetVariable(r, k)
 }

@@ -22,12 +22,28 @@ store-requires c κs = search needs
 insert-requires-2 : tie.Need-insert-requires-2
 insert-requires-2 c κs = search needs
 
+move-to-register-requires : tie.Need-move-to-register-requires
+move-to-register-requires c κs = search needs
+
 push-back-requires : tie.Need-push-back-requires
 push-back-requires c κs = search needs
 
 returns : tie.Need-returns
 unfolding movedTo
-returns c = simp (← c .before .before .before .before .before .before .before .before .before .remove .ensures, ← c .before .before .before .before .before .before .before .insert .ensures, ← c .before .before .before .before .before .load .ensures, ← c .before .before .before .set-register .ensures, ← c .before .before .store .ensures, ← c .before .insert2 .ensures, c .push-back .ensures)
+returns c =
+    let stored = c .before .before .before in
+    let loaded = stored .before .before .before in
+    let inserted = loaded .before .before in
+    simp (
+      ← inserted .before .before .remove .ensures,
+      ← inserted .insert .ensures,
+      ← loaded .load .ensures,
+      ← stored .before .set-register .ensures,
+      ← stored .store .ensures,
+      ← c .before .before .insert2 .ensures,
+      c .before .move-to-register .ensures,
+      c .push-back .ensures,
+    )
 
 pub move-to-spec : {M : Type 1} → statement M
 move-to-spec =
@@ -39,5 +55,6 @@ move-to-spec =
     set-register-requires
     store-requires
     insert-requires-2
+    move-to-register-requires
     push-back-requires
     returns)
