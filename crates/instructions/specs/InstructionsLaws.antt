@@ -48,7 +48,7 @@ number-has-word (UnifyLocalValue place) = omega arith
 
 -- ---- A number by elimination
 
--- n is none of the numbers below k: what the last arm of a match knows
+-- n is none of the numbers below k: what the last arm of a match knows, so that no number below k gets there
 abbrev pub NoneBelow : ℕ → ℕ → Type 0
 NoneBelow n zero = Unit
 NoneBelow n (suc k) = NoneBelow n k × (n ≡ k → ⊥)
@@ -57,8 +57,8 @@ at-least : (n k : ℕ) → NoneBelow n k → k ≤ n
 at-least n zero h = zero-le
 at-least n (suc k) h = omega (arith, at-least n k (h .0), h .1)
 
-pub left-over : (n k : ℕ) → NoneBelow n k → n < suc k → n ≡ k
-left-over n k h m = omega (arith, at-least n k h)
+pub none-left : (n k : ℕ) → NoneBelow n k → n < k → ⊥
+none-left n k h m = omega (arith, at-least n k h)
 
 -- ---- A line piece by piece
 

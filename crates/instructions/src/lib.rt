@@ -27,7 +27,7 @@ pub enum Instruction {
     UnifyLocalValue(RegType),
 }
 
-// An instruction as its number, its place and its argument. Those from 5 on have no argument, and 0 stands for it.
+// An instruction as its number, its place and its argument. Those from 5 to 10 have no argument, and 0 stands for it.
 pub struct Code {
     pub number: u32,
     pub place: RegType,
@@ -75,7 +75,8 @@ pub fn put_instruction(out: &mut [u8], at: usize, instruction: Instruction) -> u
     let placed = put_place(out, named, place);
     match number {
         0..=4 => put_argument(out, placed, code.argument),
-        5.. => printing::put_byte(out, placed, LINE_FEED),
+        5..=10 => printing::put_byte(out, placed, LINE_FEED),
+        _ => placed,
     }
 }
 
@@ -104,7 +105,8 @@ fn put_name(out: &mut [u8], at: usize, number: u32) -> usize
         7 => printing::put_word(out, at, b"set_local_value"),
         8 => printing::put_word(out, at, b"unify_variable"),
         9 => printing::put_word(out, at, b"unify_value"),
-        10.. => printing::put_word(out, at, b"unify_local_value"),
+        10 => printing::put_word(out, at, b"unify_local_value"),
+        _ => at,
     }
 }
 

@@ -1,7 +1,7 @@
--- `instructions::put_name`: each number has its word, and the last number is the one that is left. Assumes nothing.
+-- `instructions::put_name`: each number has its word, and none is left for the last arm. Assumes nothing.
 use borrow.Author.Needs.{needs}
 use Rattle.instructions.specs.Codes.{wordOf}
-use Rattle.instructions.specs.InstructionsLaws.{left-over}
+use Rattle.instructions.specs.InstructionsLaws.{none-left}
 use Rattle.instructions.proofs.put_name.Statement.{statement}
 use Rattle.instructions.proofs.put_name.Tie as tie
 
@@ -146,10 +146,10 @@ same-length-11 c = search needs
 
 returns-11 : tie.Need-returns-11
 unfolding wordOf
-returns-11 c =
-    let start = c .before .before .before .before .before .before .before in
-    let last = left-over (start .args .number) 10 (c .before .before .before .before .before .match .rest) (start .pre) in
-    rw last (c .before .before .put-word11 .ensures)
+returns-11 c = rw (c .before .before .before .before .before .match .keys11) (c .before .before .put-word11 .ensures)
+
+returns-12 : tie.Need-returns-12
+returns-12 c = absurd (none-left (c .before .before .args .number) 11 (c .match .rest) (c .before .before .pre))
 
 pub put-name-spec : {M : Type 1} → statement M
 put-name-spec =
@@ -198,4 +198,5 @@ put-name-spec =
     same-length-10
     returns-10
     same-length-11
-    returns-11)
+    returns-11
+    returns-12)
