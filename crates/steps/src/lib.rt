@@ -272,16 +272,16 @@ fn is_full(order: Order, line: CheckLine) -> bool
 fn refusal_of(order: Order, line: CheckLine) -> u32
     ensures { λ r. ⌜ r ≡ refusalOf order line ⌝ }
 {
-    if is_out_of_order(order, line) {
-        return refusals::ORDER;
+    match is_out_of_order(order, line) {
+        true => refusals::ORDER,
+        false => match fits(line) {
+            false => refusals::SIZE,
+            true => match is_full(order, line) {
+                true => refusals::FULL,
+                false => refusals::ACCEPTED,
+            },
+        },
     }
-    if !fits(line) {
-        return refusals::SIZE;
-    }
-    if is_full(order, line) {
-        return refusals::FULL;
-    }
-    refusals::ACCEPTED
 }
 
 // The arguments of the goal with a step's; `call` ends the goal.
@@ -349,18 +349,19 @@ pub fn judge(order: Order, line: CheckLine) -> Judged
     ensures { λ r. ⌜ r ≡ judged order line ⌝ }
 {
     let refusal = refusal_of(order, line);
-    if refusal == refusals::ACCEPTED {
-        return with_refusal(following(order, line), refusal);
+    match refusal {
+        refusals::ACCEPTED => with_refusal(following(order, line), refusal),
+        _ => with_refusal(order, refusal),
     }
-    with_refusal(order, refusal)
 }
 
 // The refusal of a sheet that ends here: goal steps have no `call` after them.
 pub fn refusal_at_end(order: Order) -> u32
     ensures { λ r. ⌜ r ≡ refusalAtEnd order ⌝ }
 {
-    if order.kind == GOAL_STEP {
-        return refusals::ORDER;
+    let kind = order.kind;
+    match kind {
+        GOAL_STEP => refusals::ORDER,
+        _ => refusals::ACCEPTED,
     }
-    refusals::ACCEPTED
 }

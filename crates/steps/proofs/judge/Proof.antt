@@ -13,27 +13,27 @@ refusal-of-requires c κs = search needs
 following-requires : tie.Need-following-requires
 following-requires c κs =
     let a = c .before .before .args in
-    line-has-room (a .order) (a .line) (judged-refusal (a .order) (a .line) ∙ sym (c .before .refusal-of .ensures) ∙ c .if1 .taken)
+    line-has-room (a .order) (a .line) (judged-refusal (a .order) (a .line) ∙ sym (c .before .refusal-of .ensures) ∙ c .match .keys1)
 
 with-refusal-requires : tie.Need-with-refusal-requires
 with-refusal-requires c κs = search needs
+
+with-refusal-requires-2 : tie.Need-with-refusal-requires-2
+with-refusal-requires-2 c κs = search needs
 
 returns : tie.Need-returns
 unfolding judged judgedAs
 returns c =
     simp (
       ← c .before .before .before .refusal-of .ensures,
-      eq-eqb _ _ (c .before .before .if1 .taken),
+      eq-eqb _ _ (c .before .before .match .keys1),
       ← c .before .following .ensures,
       c .with-refusal .ensures,
     )
 
-with-refusal-requires-2 : tie.Need-with-refusal-requires-2
-with-refusal-requires-2 c κs = search needs
-
 returns-2 : tie.Need-returns-2
 unfolding judged judgedAs
-returns-2 c = simp (← c .before .before .refusal-of .ensures, ne-eqb _ _ (c .before .if1 .left), c .with-refusal2 .ensures)
+returns-2 c = simp (← c .before .before .refusal-of .ensures, ne-eqb _ _ (c .before .match .rest .1), c .with-refusal2 .ensures)
 
 pub judge-spec : {M : Type 1} → statement M
 judge-spec =
@@ -42,6 +42,6 @@ judge-spec =
     refusal-of-requires
     following-requires
     with-refusal-requires
-    returns
     with-refusal-requires-2
+    returns
     returns-2)
