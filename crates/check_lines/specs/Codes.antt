@@ -1,5 +1,5 @@
--- The words of lines, numbered from 1, and the steps and instructions that those numbers name.
-use Prim.Native.Nat.{ℕ, suc}
+-- The words of lines, numbered from 1, and the lines that those numbers name.
+use Prim.Native.Nat.{ℕ}
 use mathlib.Core.List.{List, [], _∷_}
 use lib.Dec.{eqb}
 use lib.ListN.{drop}
@@ -7,11 +7,13 @@ use Rattle.notation.specs.Choice.{if_then_else_}
 use Rattle.notation.specs.Text.{bytes}
 use Rattle.words.specs.Words.{codeAmong}
 use Rattle.registers.specs.declared.RegType.{RegType}
-use Rattle.instructions.specs.declared.Instruction.{Instruction}
-use Rattle.instructions.specs.declared.Instruction.the-variants.{GetVariable, GetValue, PutVariable, PutValue, SetVariable, SetValue, SetLocalValue, UnifyVariable, UnifyValue, UnifyLocalValue}
+use Rattle.registers.specs.declared.RegType.the-variants.{Temp, Perm}
+use Rattle.instructions.specs.declared.Instruction.the-variants.{GetVariable, GetValue, PutVariable, PutValue, PutUnsafeValue, SetVariable, SetValue, SetLocalValue, UnifyVariable, UnifyValue, UnifyLocalValue}
 use Rattle.instructions.specs.Codes.{words}
-use Rattle.steps.specs.declared.Step.{Step}
-use Rattle.steps.specs.declared.Step.the-variants.{Head, HeadDeep, Goal, GoalDeep}
+use Rattle.steps.specs.declared.Step.the-variants.{Head, HeadDeep, Goal, GoalDeep, Call}
+use Rattle.steps.specs.declared.CheckLine.the-variants.{Begins, Does}
+use Rattle.check_lines.specs.declared.Line.{Line}
+use Rattle.check_lines.specs.declared.Line.the-variants.{Malformed, Says}
 
 -- the first five instructions have a place and an argument, the others a place
 abbrev pub placeWords : List (List ℕ)
@@ -24,26 +26,44 @@ lineWords = bytes "call" ∷ bytes "hd" ∷ bytes "gd" ∷ bytes "h" ∷ bytes "
 unfoldable pub wordCode : List ℕ → ℕ
 wordCode word = codeAmong 1 lineWords word
 
--- ---- The steps and instructions of the numbers
+-- ---- The lines of the numbers, by what is read behind the word; any other number has none
 
-unfoldable pub deepStep : ℕ → ℕ → Step
-deepStep code v = if eqb code 2 then HeadDeep v else GoalDeep v
+unfoldable pub noField : ℕ → Line
+noField code = if eqb code 1 then Says (Begins Call) else Malformed
 
-unfoldable pub argumentStep : ℕ → ℕ → ℕ → Step
-argumentStep code k v = if eqb code 4 then Head k v else Goal k v
+unfoldable pub deepStep : ℕ → ℕ → Line
+deepStep code v =
+    if eqb code 2 then Says (Begins (HeadDeep v)) else if eqb code 3 then Says (Begins (GoalDeep v)) else Malformed
 
-unfoldable pub argumentInstruction : ℕ → RegType → ℕ → Instruction
+unfoldable pub argumentStep : ℕ → ℕ → ℕ → Line
+argumentStep code k v =
+    if eqb code 4 then Says (Begins (Head k v)) else if eqb code 5 then Says (Begins (Goal k v)) else Malformed
+
+-- `put_unsafe_value` takes a slot only
+abbrev pub unsafeLine : RegType → ℕ → Line
+unsafeLine (Perm slot) k = Says (Does (PutUnsafeValue slot k))
+unsafeLine (Temp r) k = Malformed
+
+unfoldable pub argumentInstruction : ℕ → RegType → ℕ → Line
 argumentInstruction code place k =
     if eqb code 6
-    then GetVariable place k
-    else if eqb code 7 then GetValue place k else if eqb code 8 then PutVariable place k else PutValue place k
+    then Says (Does (GetVariable place k))
+    else if eqb code 7
+    then Says (Does (GetValue place k))
+    else if eqb code 8
+    then Says (Does (PutVariable place k))
+    else if eqb code 9 then Says (Does (PutValue place k)) else if eqb code 10 then unsafeLine place k else Malformed
 
-unfoldable pub placeInstruction : ℕ → RegType → Instruction
+unfoldable pub placeInstruction : ℕ → RegType → Line
 placeInstruction code place =
     if eqb code 11
-    then SetVariable place
+    then Says (Does (SetVariable place))
     else if eqb code 12
-    then SetValue place
+    then Says (Does (SetValue place))
     else if eqb code 13
-    then SetLocalValue place
-    else if eqb code 14 then UnifyVariable place else if eqb code 15 then UnifyValue place else UnifyLocalValue place
+    then Says (Does (SetLocalValue place))
+    else if eqb code 14
+    then Says (Does (UnifyVariable place))
+    else if eqb code 15
+    then Says (Does (UnifyValue place))
+    else if eqb code 16 then Says (Does (UnifyLocalValue place)) else Malformed

@@ -12,8 +12,8 @@ use Rattle.steps.specs.declared.Step.the-variants.{Head, HeadDeep, Goal, GoalDe
 use Rattle.steps.specs.declared.CheckLine.the-variants.{Begins, Does}
 use Rattle.check_lines.specs.declared.Line.{Line}
 use Rattle.check_lines.specs.declared.Line.the-variants.{Malformed, Says}
-use Rattle.check_lines.specs.Codes.{wordCode, deepStep, argumentStep, argumentInstruction, placeInstruction}
-use Rattle.check_lines.specs.CheckLines.{placeOf, argumentOf, callLine, oneField, withOneField, twoFields, withTwoFields, saidBy, fieldsSay, lineSays}
+use Rattle.check_lines.specs.Codes.{wordCode, noField, deepStep, argumentStep, argumentInstruction, placeInstruction}
+use Rattle.check_lines.specs.CheckLines.{fieldOf, saidBy, fieldsSay, lineSays}
 
 -- each word, in document 01's order; a number outside its size has its form all the same
 abbrev wellFormed : List (List ℕ × Line)
@@ -63,9 +63,9 @@ malformed =
     ∷ []
 
 pub lines-read : map (λ (e : List ℕ × Line). lineSays (e .0)) wellFormed ≡ map (λ (e : List ℕ × Line). e .1) wellFormed
-unfolding lineSays fieldsSay split inFront saidBy wordCode codeAmong same callLine oneField withOneField twoFields withTwoFields argumentOf placeOf deepStep argumentStep argumentInstruction placeInstruction numberOf isNumber allDigits isDigit valueFrom needlessZero
+unfolding lineSays fieldsSay split inFront saidBy wordCode codeAmong same fieldOf noField deepStep argumentStep argumentInstruction placeInstruction numberOf isNumber allDigits isDigit valueFrom needlessZero
 lines-read = refl
 
 pub lines-refused : map lineSays malformed ≡ map (λ (line : List ℕ). Malformed) malformed
-unfolding lineSays fieldsSay split inFront saidBy wordCode codeAmong same callLine oneField withOneField twoFields withTwoFields argumentOf placeOf deepStep argumentStep argumentInstruction placeInstruction numberOf isNumber allDigits isDigit valueFrom needlessZero
+unfolding lineSays fieldsSay split inFront saidBy wordCode codeAmong same fieldOf noField deepStep argumentStep argumentInstruction placeInstruction numberOf isNumber allDigits isDigit valueFrom needlessZero
 lines-refused = refl

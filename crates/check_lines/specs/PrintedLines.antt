@@ -5,7 +5,7 @@ use mathlib.Core.Bool.{true, false, not}
 use mathlib.Core.List.{List, [], _∷_, _++_}
 use native.Mathlib.Omega.{arith}
 use lib.Dec.{eqb, ltb}
-use borrow.Author.Tests.{lt-leb, ne-eqb}
+use borrow.Author.Tests.{ne-eqb}
 use Rattle.notation.specs.Choice.{if_then_else_}
 use Rattle.notation.specs.ChoiceLaws.{both-true}
 use Rattle.notation.specs.Text.{bytes}
@@ -25,10 +25,9 @@ use Rattle.instructions.specs.Codes.{codeOf, wordOf, fieldsOf}
 use Rattle.instructions.specs.InstructionsLaws.{text-by-number}
 use Rattle.steps.specs.declared.CheckLine.the-variants.{Does}
 use Rattle.check_lines.specs.declared.Line.the-variants.{Says}
-use Rattle.check_lines.specs.declared.PlaceField.the-variants.{Of as ofPlace}
+use Rattle.check_lines.specs.declared.Field.the-variants.{Place as ofPlace}
 use Rattle.check_lines.specs.Codes.{wordCode, argumentInstruction, placeInstruction}
-use Rattle.check_lines.specs.CheckLines.{placeOf, argumentOf, oneField, withOneField, twoFields, withTwoFields, saidBy, fieldsSay, lineSays}
-use Rattle.check_lines.specs.CheckLinesLaws.{said-two, said-place}
+use Rattle.check_lines.specs.CheckLines.{fieldOf, saidBy, fieldsSay, lineSays}
 
 abbrev pub printedLine : Instruction → List ℕ
 printedLine instruction = joined tab (fieldsOf (codeOf instruction))
@@ -79,25 +78,20 @@ place-free (Perm r) = decimal-free r
 
 -- ---- The fields read back
 
-place-read : (place : RegType) → inPlace place ≤ largestNumber → placeOf (registerText place) ≡ ofPlace place
-unfolding placeOf registerText same
+place-read : (place : RegType) → inPlace place ≤ largestNumber → fieldOf (registerText place) ≡ ofPlace place
+unfolding fieldOf registerText same
 place-read (Temp r) h = simp (printed-is-read r h)
 place-read (Perm r) h = simp (printed-is-read r h)
 
 module _ (place : RegType) (h : inPlace place ≤ largestNumber) where
-  place-said :
-      (code : ℕ) → 10 < code → saidBy code (registerText place ∷ []) ≡ Says (Does (placeInstruction code place))
-  unfolding withOneField oneField
-  place-said code l =
-      said-place code (registerText place ∷ []) l ∙ simp (lt-leb code 3 (omega arith), place-read place h)
+  place-said : (code : ℕ) → saidBy code (registerText place ∷ []) ≡ placeInstruction code place
+  unfolding saidBy
+  place-said code = rw (place-read place h)
 
   argument-said :
-      (code k : ℕ) → k ≤ largestNumber → 5 < code → code ≤ 10
-      → saidBy code (registerText place ∷ decimal k ∷ []) ≡ argumentOf code place k
-  unfolding withTwoFields twoFields
-  argument-said code k m l u =
-      said-two code (registerText place ∷ decimal k ∷ []) (omega arith) u
-      ∙ simp (lt-leb code 5 l, place-read place h, printed-is-read k m)
+      (code k : ℕ) → k ≤ largestNumber → saidBy code (registerText place ∷ decimal k ∷ []) ≡ argumentInstruction code place k
+  unfolding saidBy
+  argument-said code k m = rw (place-read place h, printed-is-read k m)
 
 module _ (word : List ℕ) (place : RegType) (clear : free tab word ≡ true) where
   two-said : lineSays (joined tab (word ∷ registerText place ∷ [])) ≡ saidBy (wordCode word) (registerText place ∷ [])
@@ -115,15 +109,15 @@ module _ (word : List ℕ) (place : RegType) (clear : free tab word ≡ true) wh
 pub instruction-read :
     (instruction : Instruction) → inPlace (codeOf instruction .place) ≤ largestNumber → codeOf instruction .argument ≤ largestNumber
     → lineSays (printedLine instruction) ≡ Says (Does instruction)
-unfolding fieldsOf wordOf wordCode codeAmong same free argumentOf argumentInstruction placeInstruction
-instruction-read (GetVariable place k) h m = three-said (bytes "get_variable") place refl k ∙ argument-said place h 6 k m (omega arith) (omega arith)
-instruction-read (GetValue place k) h m = three-said (bytes "get_value") place refl k ∙ argument-said place h 7 k m (omega arith) (omega arith)
-instruction-read (PutVariable place k) h m = three-said (bytes "put_variable") place refl k ∙ argument-said place h 8 k m (omega arith) (omega arith)
-instruction-read (PutValue place k) h m = three-said (bytes "put_value") place refl k ∙ argument-said place h 9 k m (omega arith) (omega arith)
-instruction-read (PutUnsafeValue slot k) h m = three-said (bytes "put_unsafe_value") (Perm slot) refl k ∙ argument-said (Perm slot) h 10 k m (omega arith) (omega arith)
-instruction-read (SetVariable place) h m = two-said (bytes "set_variable") place refl ∙ place-said place h 11 (omega arith)
-instruction-read (SetValue place) h m = two-said (bytes "set_value") place refl ∙ place-said place h 12 (omega arith)
-instruction-read (SetLocalValue place) h m = two-said (bytes "set_local_value") place refl ∙ place-said place h 13 (omega arith)
-instruction-read (UnifyVariable place) h m = two-said (bytes "unify_variable") place refl ∙ place-said place h 14 (omega arith)
-instruction-read (UnifyValue place) h m = two-said (bytes "unify_value") place refl ∙ place-said place h 15 (omega arith)
-instruction-read (UnifyLocalValue place) h m = two-said (bytes "unify_local_value") place refl ∙ place-said place h 16 (omega arith)
+unfolding fieldsOf wordOf wordCode codeAmong same free argumentInstruction placeInstruction
+instruction-read (GetVariable place k) h m = three-said (bytes "get_variable") place refl k ∙ argument-said place h 6 k m
+instruction-read (GetValue place k) h m = three-said (bytes "get_value") place refl k ∙ argument-said place h 7 k m
+instruction-read (PutVariable place k) h m = three-said (bytes "put_variable") place refl k ∙ argument-said place h 8 k m
+instruction-read (PutValue place k) h m = three-said (bytes "put_value") place refl k ∙ argument-said place h 9 k m
+instruction-read (PutUnsafeValue slot k) h m = three-said (bytes "put_unsafe_value") (Perm slot) refl k ∙ argument-said (Perm slot) h 10 k m
+instruction-read (SetVariable place) h m = two-said (bytes "set_variable") place refl ∙ place-said place h 11
+instruction-read (SetValue place) h m = two-said (bytes "set_value") place refl ∙ place-said place h 12
+instruction-read (SetLocalValue place) h m = two-said (bytes "set_local_value") place refl ∙ place-said place h 13
+instruction-read (UnifyVariable place) h m = two-said (bytes "unify_variable") place refl ∙ place-said place h 14
+instruction-read (UnifyValue place) h m = two-said (bytes "unify_value") place refl ∙ place-said place h 15
+instruction-read (UnifyLocalValue place) h m = two-said (bytes "unify_local_value") place refl ∙ place-said place h 16

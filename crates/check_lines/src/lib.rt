@@ -8,26 +8,20 @@ ghost use Rattle.instructions.specs.Codes.{words as instructionWords};
 ghost use Rattle.check_lines.specs.Codes.{
   wordCode,
   placeWords,
+  noField,
   deepStep,
   argumentStep,
+  unsafeLine,
   argumentInstruction,
   placeInstruction,
 };
 ghost use Rattle.check_lines.specs.CheckLines.{
+  byItself,
   inRegister,
   inSlot,
-  placeOf,
-  deepLine,
-  stepLine,
-  unsafeLine,
-  argumentOf,
-  argumentLine,
-  placeLine,
-  callLine,
+  fieldOf,
   oneField,
   twoFields,
-  withOneField,
-  withTwoFields,
   saidBy,
   lineSays,
 };
@@ -44,8 +38,10 @@ pub enum Line {
     Says(CheckLine),
 }
 
-enum PlaceField {
-    Of(RegType),
+// What a field behind the word says.
+enum Field {
+    Number(u32),
+    Place(RegType),
     Malformed,
 }
 
@@ -121,100 +117,84 @@ fn place_word_code(word: &[u8]) -> u32
     0
 }
 
-// ---- Places
+// ---- Fields
+
+// A number by itself.
+fn by_itself(number: Number) -> Field
+    ensures { λ r. ⌜ r ≡ byItself number ⌝ }
+{
+    match number {
+        Number::Of(n) => Field::Number(n),
+        Number::Malformed => Field::Malformed,
+    }
+}
 
 // A register.
-fn in_register(number: Number) -> PlaceField
+fn in_register(number: Number) -> Field
     ensures { λ r. ⌜ r ≡ inRegister number ⌝ }
 {
     match number {
-        Number::Of(n) => PlaceField::Of(RegType::Temp(n)),
-        Number::Malformed => PlaceField::Malformed,
+        Number::Of(n) => Field::Place(RegType::Temp(n)),
+        Number::Malformed => Field::Malformed,
     }
 }
 
 // A slot.
-fn in_slot(number: Number) -> PlaceField
+fn in_slot(number: Number) -> Field
     ensures { λ r. ⌜ r ≡ inSlot number ⌝ }
 {
     match number {
-        Number::Of(n) => PlaceField::Of(RegType::Perm(n)),
-        Number::Malformed => PlaceField::Malformed,
+        Number::Of(n) => Field::Place(RegType::Perm(n)),
+        Number::Malformed => Field::Malformed,
     }
 }
 
-// The place: `x` or `y` with a number.
-fn place_of(field: &[u8]) -> PlaceField
-    ensures { λ r. ⌜ r ≡ placeOf (now (field .entry)) ⌝ }
+// The field: a number, or a place, `x` or `y` with a number.
+fn field_of(field: &[u8]) -> Field
+    ensures { λ r. ⌜ r ≡ fieldOf (now (field .entry)) ⌝ }
 {
     let letter = split::part_before(field, 1);
     let behind = split::part_after(field, 0);
-    let number = numbers::read(behind);
     if words::is(letter, b"x") {
-        return in_register(number);
+        return in_register(numbers::read(behind));
     }
     if words::is(letter, b"y") {
-        return in_slot(number);
+        return in_slot(numbers::read(behind));
     }
-    PlaceField::Malformed
+    by_itself(numbers::read(field))
 }
 
-// ---- Steps
+// ---- Lines by the word's number: a number that a function does not name has no line of its form
 
-// The step of a deep subterm.
-fn deep_step(code: u32, v: u32) -> Step
+// No field: `call`.
+fn no_field(code: u32) -> Line
+    ensures { λ r. ⌜ r ≡ noField code ⌝ }
+{
+    match code {
+        1 => Line::Says(CheckLine::Begins(Step::Call)),
+        _ => Line::Malformed,
+    }
+}
+
+// A variable: the step of a deep subterm.
+fn deep_step(code: u32, v: u32) -> Line
     ensures { λ r. ⌜ r ≡ deepStep code v ⌝ }
 {
     match code {
-        2 => Step::HeadDeep(v),
-        _ => Step::GoalDeep(v),
+        2 => Line::Says(CheckLine::Begins(Step::HeadDeep(v))),
+        3 => Line::Says(CheckLine::Begins(Step::GoalDeep(v))),
+        _ => Line::Malformed,
     }
 }
 
-// The line of `hd` or `gd`.
-fn deep_line(code: u32, variable: Number) -> Line
-    ensures { λ r. ⌜ r ≡ deepLine code variable ⌝ }
-{
-    match variable {
-        Number::Of(v) => Line::Says(CheckLine::Begins(deep_step(code, v))),
-        Number::Malformed => Line::Malformed,
-    }
-}
-
-// The step of an argument.
-fn argument_step(code: u32, k: u32, v: u32) -> Step
+// An argument and a variable: the step of an argument.
+fn argument_step(code: u32, k: u32, v: u32) -> Line
     ensures { λ r. ⌜ r ≡ argumentStep code k v ⌝ }
 {
     match code {
-        4 => Step::Head(k, v),
-        _ => Step::Goal(k, v),
-    }
-}
-
-// The line of `h` or `g`.
-fn step_line(code: u32, argument: Number, variable: Number) -> Line
-    ensures { λ r. ⌜ r ≡ stepLine code argument variable ⌝ }
-{
-    match argument {
-        Number::Of(k) => match variable {
-            Number::Of(v) => Line::Says(CheckLine::Begins(argument_step(code, k, v))),
-            Number::Malformed => Line::Malformed,
-        },
-        Number::Malformed => Line::Malformed,
-    }
-}
-
-// ---- Instructions
-
-// The instruction with a place and an argument.
-fn argument_instruction(code: u32, place: RegType, k: u32) -> Instruction
-    ensures { λ r. ⌜ r ≡ argumentInstruction code place k ⌝ }
-{
-    match code {
-        6 => Instruction::GetVariable(place, k),
-        7 => Instruction::GetValue(place, k),
-        8 => Instruction::PutVariable(place, k),
-        _ => Instruction::PutValue(place, k),
+        4 => Line::Says(CheckLine::Begins(Step::Head(k, v))),
+        5 => Line::Says(CheckLine::Begins(Step::Goal(k, v))),
+        _ => Line::Malformed,
     }
 }
 
@@ -228,124 +208,80 @@ fn unsafe_line(place: RegType, k: u32) -> Line
     }
 }
 
-// The line of an instruction whose place and argument are read.
-fn argument_of(code: u32, place: RegType, k: u32) -> Line
-    ensures { λ r. ⌜ r ≡ argumentOf code place k ⌝ }
+// A place and an argument: the instruction that has both.
+fn argument_instruction(code: u32, place: RegType, k: u32) -> Line
+    ensures { λ r. ⌜ r ≡ argumentInstruction code place k ⌝ }
 {
     match code {
-        0..=9 => Line::Says(CheckLine::Does(argument_instruction(code, place, k))),
-        10.. => unsafe_line(place, k),
+        6 => Line::Says(CheckLine::Does(Instruction::GetVariable(place, k))),
+        7 => Line::Says(CheckLine::Does(Instruction::GetValue(place, k))),
+        8 => Line::Says(CheckLine::Does(Instruction::PutVariable(place, k))),
+        9 => Line::Says(CheckLine::Does(Instruction::PutValue(place, k))),
+        10 => unsafe_line(place, k),
+        _ => Line::Malformed,
     }
 }
 
-// The line of an instruction with an argument.
-fn argument_line(code: u32, field: PlaceField, argument: Number) -> Line
-    ensures { λ r. ⌜ r ≡ argumentLine code field argument ⌝ }
-{
-    match field {
-        PlaceField::Of(place) => match argument {
-            Number::Of(k) => argument_of(code, place, k),
-            Number::Malformed => Line::Malformed,
-        },
-        PlaceField::Malformed => Line::Malformed,
-    }
-}
-
-// The instruction with a place only.
-fn place_instruction(code: u32, place: RegType) -> Instruction
+// A place: the instruction that has nothing else.
+fn place_instruction(code: u32, place: RegType) -> Line
     ensures { λ r. ⌜ r ≡ placeInstruction code place ⌝ }
 {
     match code {
-        11 => Instruction::SetVariable(place),
-        12 => Instruction::SetValue(place),
-        13 => Instruction::SetLocalValue(place),
-        14 => Instruction::UnifyVariable(place),
-        15 => Instruction::UnifyValue(place),
-        _ => Instruction::UnifyLocalValue(place),
-    }
-}
-
-// The line of an instruction without an argument.
-fn place_line(code: u32, field: PlaceField) -> Line
-    ensures { λ r. ⌜ r ≡ placeLine code field ⌝ }
-{
-    match field {
-        PlaceField::Of(place) => Line::Says(CheckLine::Does(place_instruction(code, place))),
-        PlaceField::Malformed => Line::Malformed,
+        11 => Line::Says(CheckLine::Does(Instruction::SetVariable(place))),
+        12 => Line::Says(CheckLine::Does(Instruction::SetValue(place))),
+        13 => Line::Says(CheckLine::Does(Instruction::SetLocalValue(place))),
+        14 => Line::Says(CheckLine::Does(Instruction::UnifyVariable(place))),
+        15 => Line::Says(CheckLine::Does(Instruction::UnifyValue(place))),
+        16 => Line::Says(CheckLine::Does(Instruction::UnifyLocalValue(place))),
+        _ => Line::Malformed,
     }
 }
 
 // ---- All lines
 
-// The line of `call`.
-fn call_line(rest: &[u8]) -> Line
-    ensures { λ r. ⌜ r ≡ callLine (fieldsLeft tab (now (rest .entry))) ⌝ }
-{
-    if rest.len() == 0 {
-        return Line::Says(CheckLine::Begins(Step::Call));
-    }
-    Line::Malformed
-}
-
 // The line of a word with one field.
-fn one_field(code: u32, field: &[u8]) -> Line
-    ensures { λ r. ⌜ r ≡ oneField code (now (field .entry)) ⌝ }
+fn one_field(code: u32, field: Field) -> Line
+    ensures { λ r. ⌜ r ≡ oneField code field ⌝ }
 {
-    match code {
-        0..=3 => deep_line(code, numbers::read(field)),
-        4.. => place_line(code, place_of(field)),
+    match field {
+        Field::Number(v) => deep_step(code, v),
+        Field::Place(place) => place_instruction(code, place),
+        Field::Malformed => Line::Malformed,
     }
-}
-
-// The same, where one field is left.
-fn with_one_field(code: u32, rest: &[u8]) -> Line
-    ensures { λ r. ⌜ r ≡ withOneField code (fieldsLeft tab (now (rest .entry))) ⌝ }
-{
-    let end = fields::end_of_field(rest, TAB);
-    if end == rest.len() {
-        let field = fields::field(rest, end);
-        return one_field(code, field);
-    }
-    Line::Malformed
 }
 
 // The line of a word with two fields, the second of which is a number.
-fn two_fields(code: u32, first: &[u8], second: Number) -> Line
-    ensures { λ r. ⌜ r ≡ twoFields code (now (first .entry)) second ⌝ }
+fn two_fields(code: u32, first: Field, second: Number) -> Line
+    ensures { λ r. ⌜ r ≡ twoFields code first second ⌝ }
 {
-    match code {
-        0..=5 => step_line(code, numbers::read(first), second),
-        6.. => argument_line(code, place_of(first), second),
+    match second {
+        Number::Of(n) => match first {
+            Field::Number(k) => argument_step(code, k, n),
+            Field::Place(place) => argument_instruction(code, place, n),
+            Field::Malformed => Line::Malformed,
+        },
+        Number::Malformed => Line::Malformed,
     }
-}
-
-// The same, where two fields are left.
-fn with_two_fields(code: u32, rest: &[u8]) -> Line
-    ensures { λ r. ⌜ r ≡ withTwoFields code (fieldsLeft tab (now (rest .entry))) ⌝ }
-{
-    let end = fields::end_of_field(rest, TAB);
-    let first = fields::field(rest, end);
-    let behind = fields::rest_after(rest, end);
-    let last = fields::end_of_field(behind, TAB);
-    if last == behind.len() {
-        let field = fields::field(behind, last);
-        let second = numbers::read(field);
-        return two_fields(code, first, second);
-    }
-    Line::Malformed
 }
 
 // What the word's number and what is left behind the word say.
 fn line_of(code: u32, rest: &[u8]) -> Line
     ensures { λ r. ⌜ r ≡ saidBy code (fieldsLeft tab (now (rest .entry))) ⌝ }
 {
-    match code {
-        0 => Line::Malformed,
-        1 => call_line(rest),
-        2..=3 => with_one_field(code, rest),
-        4..=10 => with_two_fields(code, rest),
-        11.. => with_one_field(code, rest),
+    if rest.len() == 0 {
+        return no_field(code);
     }
+    let end = fields::end_of_field(rest, TAB);
+    let first = field_of(fields::field(rest, end));
+    if end == rest.len() {
+        return one_field(code, first);
+    }
+    let behind = fields::rest_after(rest, end);
+    let last = fields::end_of_field(behind, TAB);
+    if last == behind.len() {
+        return two_fields(code, first, numbers::read(fields::field(behind, last)));
+    }
+    Line::Malformed
 }
 
 // What a line says.

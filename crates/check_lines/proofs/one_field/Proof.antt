@@ -1,48 +1,41 @@
--- `check_lines::one_field`: the range of the match is the bound of the definition. Assumes nothing.
-use native.Mathlib.Omega.{arith}
-use borrow.Author.Tests.{le-leb, lt-leb}
+-- `check_lines::one_field`: each way of the code is a case of the definition. Assumes nothing.
 use borrow.Author.Needs.{needs}
-use Rattle.check_lines.specs.CheckLines.{oneField}
 use Rattle.check_lines.proofs.one_field.Statement.{statement}
 use Rattle.check_lines.proofs.one_field.Tie as tie
 
-read-requires : tie.Need-read-requires
-read-requires c κs = search needs
+enum-known-field : tie.Need-enum-known-field
+enum-known-field c = search needs
 
-deep-line-requires : tie.Need-deep-line-requires
-deep-line-requires c κs = search needs
+deep-step-requires : tie.Need-deep-step-requires
+deep-step-requires c κs = search needs
 
-place-of-requires : tie.Need-place-of-requires
-place-of-requires c κs = search needs
+enum-known-field-2 : tie.Need-enum-known-field-2
+enum-known-field-2 c = search needs
 
-place-line-requires : tie.Need-place-line-requires
-place-line-requires c κs = search needs
+place-instruction-requires : tie.Need-place-instruction-requires
+place-instruction-requires c κs = search needs
+
+enum-told : tie.Need-enum-told
+enum-told c = search needs
 
 returns : tie.Need-returns
-unfolding oneField
-returns c =
-    simp (
-      le-leb (c .before .before .before .before .args .code) 3 (omega arith),
-      ← c .before .read .ensures,
-      c .deep-line .ensures,
-    )
+returns c = simp (c .before .before .field .given .1, c .deep-step .ensures)
 
 returns-2 : tie.Need-returns-2
-unfolding oneField
-returns-2 c =
-    simp (
-      lt-leb (c .before .before .before .before .args .code) 3 (omega arith),
-      ← c .before .place-of .ensures,
-      c .place-line .ensures,
-    )
+returns-2 c = simp (c .before .before .field2 .given .1, c .place-instruction .ensures)
+
+returns-3 : tie.Need-returns-3
+returns-3 c = simp (c .enum-told .given .1)
 
 pub one-field-spec : {M : Type 1} → statement M
 one-field-spec =
     tie.close
     (tie.spec
-    read-requires
-    deep-line-requires
-    place-of-requires
-    place-line-requires
+    enum-known-field
+    deep-step-requires
+    enum-known-field-2
+    place-instruction-requires
+    enum-told
     returns
-    returns-2)
+    returns-2
+    returns-3)

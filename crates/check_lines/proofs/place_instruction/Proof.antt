@@ -26,15 +26,20 @@ returns-5 c = simp (c .match .keys5)
 
 returns-6 : tie.Need-returns-6
 unfolding placeInstruction
-returns-6 c =
+returns-6 c = simp (c .match .keys6)
+
+returns-7 : tie.Need-returns-7
+unfolding placeInstruction
+returns-7 c =
     simp (
       ne-eqb _ _ (c .match .rest .1),
       ne-eqb _ _ (c .match .rest .0 .1),
       ne-eqb _ _ (c .match .rest .0 .0 .1),
       ne-eqb _ _ (c .match .rest .0 .0 .0 .1),
       ne-eqb _ _ (c .match .rest .0 .0 .0 .0 .1),
+      ne-eqb _ _ (c .match .rest .0 .0 .0 .0 .0 .1),
     )
 
 pub place-instruction-spec : {M : Type 1} → statement M
 place-instruction-spec =
-    tie.close (tie.spec returns returns-2 returns-3 returns-4 returns-5 returns-6)
+    tie.close (tie.spec returns returns-2 returns-3 returns-4 returns-5 returns-6 returns-7)
