@@ -12,8 +12,8 @@ use Rattle.steps.specs.declared.Order.{Order}
 use Rattle.steps.specs.declared.Judged.{Judged}
 use Rattle.steps.specs.Steps.{isPutOrSet, isGetValueOrUnify, takesNumber, headTooLate, misplaced, instructionOutOfOrder, refusalOf, judgedAs, judged, refusalAtEnd}
 use Rattle.check_lines.specs.declared.Line.{Line}
-use Rattle.check_lines.specs.Codes.{wordCode, deepStep, argumentStep, argumentInstruction, placeInstruction}
-use Rattle.check_lines.specs.CheckLines.{placeOf, argumentOf, callLine, oneField, withOneField, twoFields, withTwoFields, saidBy, fieldsSay, lineSays}
+use Rattle.check_lines.specs.Codes.{wordCode, noField, deepStep, argumentStep, argumentInstruction, placeInstruction}
+use Rattle.check_lines.specs.CheckLines.{fieldOf, saidBy, fieldsSay, lineSays}
 use Rattle.classes.specs.Classes.{pairsOf, bothNames, labelOf, exchanged, joined, labelsAfter, ownLabels, labelling, allSame}
 use Rattle.symbolic.specs.Symbolic.{pushed, listed, valueOf, again, claimed, carriedAll}
 use Rattle.verdict.specs.Verdict.{sameSubterms, decidedBy}
@@ -21,7 +21,7 @@ use Rattle.check_sheets.specs.CheckSheets.{verdict}
 
 -- a line read
 unfoldable pub checkLineRead : List ℕ → Line
-unfolding lineSays fieldsSay saidBy withTwoFields twoFields withOneField oneField callLine argumentOf placeOf wordCode codeAmong deepStep argumentStep argumentInstruction placeInstruction isDigit allDigits valueFrom needlessZero isNumber numberOf same split inFront
+unfolding lineSays fieldsSay saidBy fieldOf wordCode codeAmong noField deepStep argumentStep argumentInstruction placeInstruction isDigit allDigits valueFrom needlessZero isNumber numberOf same split inFront
 checkLineRead bytes = lineSays bytes
 
 -- its order judged
