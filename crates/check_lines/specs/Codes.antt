@@ -1,6 +1,6 @@
 -- The words of lines, numbered from 1, and the lines that those numbers name.
 use Prim.Native.Nat.{ℕ}
-use mathlib.Core.List.{List, [], _∷_}
+use mathlib.Core.List.{List, _∷_}
 use lib.Dec.{eqb}
 use lib.ListN.{drop}
 use Rattle.notation.specs.Choice.{if_then_else_}
