@@ -6,11 +6,12 @@ use mathlib.Core.List.{List, [], _∷_, _++_}
 use native.Mathlib.Nat.{zero-add}
 use native.Mathlib.Omega.{arith}
 use lib.Dec.{eqb}
-use lib.ListN.{length, take, drop, length-append, length-drop, drop-of-length-le}
+use lib.ListN.{length, take, drop, length-append, length-take, length-drop, drop-of-length-le}
 use lib.Seq.{take-all}
 use borrow.Author.Tests.{le-leb, lt-ltb, le-ltb}
 use Rattle.notation.specs.Choice.{if_then_else_}
-use Rattle.refusals.specs.Refusals.{refusedForm, refusedSize, refusedRoom}
+use Rattle.refusals.specs.Refusals.{refusedForm, refusedSize, refusedFull, refusedRoom}
+use Rattle.sizes.specs.Sizes.{sheetBytes}
 use Rattle.split.specs.Split.{lineFeed, before, after, split, inFront}
 use Rattle.split.specs.SplitLaws.{split-last, split-more, split-some, take-before, drop-before}
 use Rattle.printing.specs.Printing.{printed, placeAfter, Put}
@@ -74,6 +75,13 @@ more-refused s line (c ∷ cs) h =
       | true ↦ ap (λ parts. partsAnswer s (line ∷ ([] ∷ parts))) (split-some lineFeed cs)
       | false ↦ ap (λ parts. partsAnswer s (line ∷ inFront c parts)) (split-some lineFeed cs)
     ]
+
+-- a line is no longer than the bytes in which it stands
+pub line-fits :
+    (bytes : List ℕ) {end : ℕ} {line : List ℕ} → end ≡ length (before lineFeed bytes) → line ≡ take end bytes
+    → length bytes ≤ sheetBytes
+    → length line ≤ sheetBytes
+line-fits bytes {end} e taken h = omega (arith, ap length taken, length-take end bytes)
 
 module _ (s : State) (bytes : List ℕ) {end : ℕ} {a : Answer} (e : end ≡ length (before lineFeed bytes)) where
   -- no LF
@@ -152,9 +160,14 @@ module _ (s : State) (bytes : List ℕ) (room : ℕ) where
   unfolding called
   called-invalid h = simp h
 
-  pub called-valid : isValid s ≡ true → called s bytes room ≡ calledBy s (bytesAnswer s bytes) room
-  unfolding called
-  called-valid h = simp h
+  module _ (valid : isValid s ≡ true) where
+    called-long : sheetBytes < length bytes → called s bytes room ≡ refusedCall s 0 refusedFull
+    unfolding called
+    called-long h = simp (valid, lt-ltb _ _ h)
+
+    pub called-valid : length bytes ≤ sheetBytes → called s bytes room ≡ calledBy s (bytesAnswer s bytes) room
+    unfolding called
+    called-valid h = simp (valid, le-ltb _ _ h)
 
 module _ (s : State) (bytes out : List ℕ) where
   -- the lent bytes go by the answer
@@ -176,9 +189,16 @@ module _ (s : State) (bytes out : List ℕ) where
       → (r ≡ called s bytes (length out)) × (out ≡ callFilled s bytes out)
   call-invalid h e = untouched 0 refusedSize e (called-invalid s bytes (length out) h)
 
-  module _ (valid : isValid s ≡ true) {a : Answer} (made : a ≡ bytesAnswer s bytes) where
+  -- then the length
+  pub call-long :
+      {r : Called} → isValid s ≡ true → sheetBytes < length bytes → r ≡ refusedCall s 0 refusedFull
+      → (r ≡ called s bytes (length out)) × (out ≡ callFilled s bytes out)
+  call-long valid h e = untouched 0 refusedFull e (called-long s bytes (length out) valid h)
+
+  module _
+      (valid : isValid s ≡ true) (short : length bytes ≤ sheetBytes) {a : Answer} (made : a ≡ bytesAnswer s bytes) where
     called-by : called s bytes (length out) ≡ calledBy s a (length out)
-    called-by = called-valid s bytes (length out) valid ∙ ap (λ a. calledBy s a (length out)) (sym made)
+    called-by = called-valid s bytes (length out) valid short ∙ ap (λ a. calledBy s a (length out)) (sym made)
 
     -- then the line
     pub call-refused :

@@ -1,10 +1,12 @@
 -- One line of an event sheet, given to a state: for every state, every list of bytes and every room.
 use Prim.Native.Nat.{ℕ}
+use mathlib.Core.Bool.{not}
 use mathlib.Core.List.{List, [], _∷_}
 use lib.Dec.{ltb}
 use lib.ListN.{length}
 use Rattle.notation.specs.Choice.{if_then_else_}
-use Rattle.refusals.specs.Refusals.{refusedForm, refusedSize, refusedRoom}
+use Rattle.refusals.specs.Refusals.{refusedForm, refusedSize, refusedFull, refusedRoom}
+use Rattle.sizes.specs.Sizes.{sheetBytes}
 use Rattle.split.specs.Split.{lineFeed, split}
 use Rattle.debray_allocator.specs.declared.State.{State}
 use Rattle.debray_allocator.specs.declared.Answer.{Answer}
@@ -48,9 +50,12 @@ calledBy s a room =
     then refusedCall s 0 refusedRoom
     else record { state = a .state; answered = Written (length (textOf a)) }
 
--- a state that holds a number outside its size or of no variable is refused before all else
+-- a state that holds a number outside its size or of no variable is refused before all else, then a line longer than a sheet
 unfoldable pub called : State → List ℕ → ℕ → Called
-called s bytes room = if isValid s then calledBy s (bytesAnswer s bytes) room else refusedCall s 0 refusedSize
+called s bytes room =
+    if not (isValid s) then refusedCall s 0 refusedSize
+    else if ltb sheetBytes (length bytes) then refusedCall s 0 refusedFull
+    else calledBy s (bytesAnswer s bytes) room
 
 -- the lent bytes afterwards
 unfoldable pub callFilled : State → List ℕ → List ℕ → List ℕ

@@ -1,14 +1,15 @@
 -- Laws of a call: there is one answer, it stays within the room, and a refusal leaves state and output untouched.
 use Prim.Native.Nat.{ℕ, _≤_}
 use mathlib.Core.Path.{_≡_, refl, ap, sym, _∙_}
-use mathlib.Core.Bool.{true, false}
+use mathlib.Core.Bool.{true, false, not}
 use mathlib.Core.List.{List}
 use native.Mathlib.Omega.{arith}
 use lib.Dec.{ltb}
 use lib.ListN.{length}
 use borrow.Author.Tests.{ltb-false}
 use Rattle.notation.specs.Choice.{if_then_else_}
-use Rattle.refusals.specs.Refusals.{refusedSize, refusedRoom}
+use Rattle.refusals.specs.Refusals.{refusedSize, refusedFull, refusedRoom}
+use Rattle.sizes.specs.Sizes.{sheetBytes}
 use Rattle.debray_allocator.specs.declared.State.{State}
 use Rattle.debray_allocator.specs.declared.Answer.{Answer}
 use Rattle.answered.specs.declared.Answered.{Answered}
@@ -17,6 +18,7 @@ use Rattle.answered.specs.Answered.{filledBy}
 use Rattle.answered.specs.AnsweredLaws.{Within, filledBy-length}
 use Rattle.event_sheets.specs.EventSheets.{ended, answeredBy}
 use Rattle.valid_states.specs.ValidStates.{isValid}
+use Rattle.invariants.specs.Lists.{either}
 use Rattle.event_calls.specs.declared.Called.{Called}
 use Rattle.event_calls.specs.EventCalls.{bytesAnswer, textOf, refusedCall, calledBy, called, callFilled, lastAnswered, lastFilled}
 
@@ -77,11 +79,10 @@ by-kept s a room =
 call-kept : (s : State) (bytes : List ℕ) (room : ℕ) → Kept s (textOf (bytesAnswer s bytes)) room (called s bytes room)
 unfolding called
 call-kept s bytes room =
-    elim (isValid s) as
-    (λ t. Kept s (textOf (bytesAnswer s bytes)) room (if t then calledBy s (bytesAnswer s bytes) room else refusedCall s 0 refusedSize)) [
-      | true ↦ by-kept s (bytesAnswer s bytes) room
-      | false ↦ refused-kept s (textOf (bytesAnswer s bytes)) room 0 refusedSize (omega arith)
-    ]
+    let text = textOf (bytesAnswer s bytes) in
+    either (Kept s text room) (not (isValid s)) (refused-kept s text room 0 refusedSize (omega arith))
+    (either (Kept s text room) (ltb sheetBytes (length bytes)) (refused-kept s text room 0 refusedFull (omega arith))
+    (by-kept s (bytesAnswer s bytes) room))
 
 pub call-within :
     (s : State) (bytes : List ℕ) (room : ℕ)

@@ -1,11 +1,12 @@
 -- A sheet fed line by line: a host keeps the state, lends its bytes to one call after the other and gathers what is written.
 use Prim.Native.Nat.{ℕ, suc}
-use mathlib.Core.Bool.{Bool, _&&_}
+use mathlib.Core.Bool.{Bool, true, _&&_}
 use mathlib.Core.List.{List, [], _∷_, _++_}
 use lib.Dec.{leb}
 use lib.ListN.{length, take}
 use Rattle.notation.specs.Choice.{if_then_else_}
 use Rattle.refusals.specs.Refusals.{accepted}
+use Rattle.sizes.specs.Sizes.{sheetBytes}
 use Rattle.split.specs.Split.{lineFeed}
 use Rattle.debray_allocator.specs.declared.State.{State}
 use Rattle.answered.specs.declared.Answered.{Answered}
@@ -43,6 +44,11 @@ fed s out number (line ∷ lines) =
 unfoldable pub allValid : State → List (List ℕ) → Bool
 allValid s [] = isValid s
 allValid s (line ∷ lines) = isValid s && allValid (lineAnswer s line .state) lines
+
+-- every line, its LF counted, is one that a sheet has room for
+unfoldable pub linesFit : List (List ℕ) → Bool
+linesFit [] = true
+linesFit (line ∷ lines) = leb (length (withFeed line)) sheetBytes && linesFit lines
 
 -- every line's text finds room, the last one's too
 unfoldable pub allWithin : ℕ → State → List (List ℕ) → Bool

@@ -10,9 +10,10 @@ use lib.Seq.{take-append-seam}
 use borrow.Author.Tests.{le-leb, leb-true, ltb-true, ltb-false}
 use Rattle.notation.specs.Choice.{if_then_else_}
 use Rattle.notation.specs.ChoiceLaws.{both-true}
+use Rattle.sizes.specs.Sizes.{sheetBytes}
 use Rattle.split.specs.Split.{lineFeed, split, inFront, joined}
 use Rattle.split.specs.SplitLaws.{split-some}
-use Rattle.split.specs.SplitTrips.{free, allFree, allFree-split, split-joined}
+use Rattle.split.specs.SplitTrips.{free, allFree, allFree-split, split-joined, joined-split}
 use Rattle.debray_allocator.specs.declared.State.{State}
 use Rattle.debray_allocator.specs.declared.Answer.{Answer}
 use Rattle.debray_allocator.specs.State.{freshState}
@@ -30,7 +31,7 @@ use Rattle.valid_stays.specs.Fits.{Full}
 use Rattle.valid_stays.specs.ValidStays.{valid-stays, lengths-stay, full-fresh}
 use Rattle.event_calls.specs.EventCalls.{partsAnswer, bytesAnswer, textOf, calledBy, called, callFilled, lastFilled}
 use Rattle.event_calls.specs.CallLaws.{called-valid, by-refused, by-written, last-fits}
-use Rattle.event_calls.specs.Fold.{withFeed, gathered, nothingMore, fed, allValid, allWithin}
+use Rattle.event_calls.specs.Fold.{withFeed, gathered, nothingMore, fed, allValid, linesFit, allWithin}
 
 -- ---- A line and its LF
 
@@ -44,7 +45,9 @@ fed-answer s line h = ap (partsAnswer s) (fed-parts line h)
 
 -- ---- One call
 
-module _ (s : State) (out line : List ℕ) (alone : free lineFeed line ≡ true) (valid : isValid s ≡ true) where
+module _
+    (s : State) (out line : List ℕ)
+    (alone : free lineFeed line ≡ true) (valid : isValid s ≡ true) (fits : length (withFeed line) ≤ sheetBytes) where
   abbrev answer : Answer
   answer = lineAnswer s line
 
@@ -52,7 +55,7 @@ module _ (s : State) (out line : List ℕ) (alone : free lineFeed line ≡ true)
   text = textOf answer
 
   called-line : called s (withFeed line) (length out) ≡ calledBy s answer (length out)
-  called-line = called-valid s (withFeed line) (length out) valid ∙ ap (λ a. calledBy s a (length out)) (fed-answer s line alone)
+  called-line = called-valid s (withFeed line) (length out) valid fits ∙ ap (λ a. calledBy s a (length out)) (fed-answer s line alone)
 
   module _ (number : ℕ) (lines : List (List ℕ)) where
     fed-bad : 0 < answer .refusal → fed s out number (line ∷ lines) ≡ refusedAt number (answer .refusal)
@@ -100,25 +103,28 @@ ran-first s number line (next ∷ lines) = refl
 pub fed-ran :
     (lines : List (List ℕ)) (s : State) (out : List ℕ) (number : ℕ) → allFree lineFeed lines ≡ true
     → allValid s lines ≡ true
+    → linesFit lines ≡ true
     → allWithin (length out) s lines ≡ true
     → fed s out number lines ≡ ran s number (lines ++ ([] ∷ []))
-unfolding allFree allValid allWithin
-fed-ran [] s out number alone valid within =
+unfolding allFree allValid linesFit allWithin
+fed-ran [] s out number alone valid fit within =
     fed-end s out number valid (leb-true _ _ within) ∙ sym (ran-end s number)
-fed-ran (line ∷ lines) s out number alone valid within =
+fed-ran (line ∷ lines) s out number alone valid fit within =
     let a = lineAnswer s line in
     let text = textOf a in
     let f = both-true (free lineFeed line) (allFree lineFeed lines) alone in
     let v = both-true (isValid s) (allValid (a .state) lines) valid in
+    let l = both-true (leb (length (withFeed line)) sheetBytes) (linesFit lines) fit in
+    let fits : length (withFeed line) ≤ sheetBytes = leb-true _ _ (l .0) in
     let w = both-true (leb (length text) (length out)) (allWithin (length out) (a .state) lines) within in
     let short : length text ≤ length out = leb-true _ _ (w .0) in
     let n : length (text ++ drop (length text) out) ≡ length out = omega (arith, length-append text (drop (length text) out), length-drop (length text) out) in
-    let later = fed-ran lines (a .state) (text ++ drop (length text) out) (suc number) (f .1) (v .1) (rw n (w .1)) in
+    let later = fed-ran lines (a .state) (text ++ drop (length text) out) (suc number) (f .1) (v .1) (l .1) (rw n (w .1)) in
     elim (ltb 0 (a .refusal)) as
     (λ t. ltb 0 (a .refusal) ≡ t → fed s out number (line ∷ lines) ≡ ran s number (line ∷ (lines ++ ([] ∷ [])))) [
-      | true ↦ λ e. fed-bad s out line (f .0) (v .0) number lines (ltb-true _ _ e)
+      | true ↦ λ e. fed-bad s out line (f .0) (v .0) fits number lines (ltb-true _ _ e)
           ∙ sym (ran-first s number line lines ∙ ran-refused number _ a (ltb-true _ _ e))
-      | false ↦ λ e. fed-good s out line (f .0) (v .0) number lines (ltb-false _ _ e) short
+      | false ↦ λ e. fed-good s out line (f .0) (v .0) fits number lines (ltb-false _ _ e) short
           ∙ ap (behind text) later
           ∙ sym (ran-first s number line lines ∙ ran-accepted number _ a (ltb-false _ _ e))
     ]
@@ -156,26 +162,44 @@ module _ (out : List ℕ) where
   pub fed-sheet :
       (sheet : List ℕ) (lines : List (List ℕ)) → split lineFeed sheet ≡ lines ++ ([] ∷ [])
       → allValid freshState lines ≡ true
+      → linesFit lines ≡ true
       → allWithin (length out) freshState lines ≡ true
       → fed freshState out 1 lines ≡ sheetRan sheet
   unfolding sheetRan
-  fed-sheet sheet lines parts valid within =
+  fed-sheet sheet lines parts valid fit within =
       let alone = allFree-first lines ([] ∷ []) (subst (λ l. allFree lineFeed l ≡ true) parts (allFree-split lineFeed sheet)) in
-      fed-ran lines freshState out 1 alone valid within ∙ ap (ran freshState 1) (sym parts)
+      fed-ran lines freshState out 1 alone valid fit within ∙ ap (ran freshState 1) (sym parts)
 
   -- so it is for the empty sheet
   pub fed-empty : allWithin (length out) freshState [] ≡ true → fed freshState out 1 [] ≡ sheetRan []
-  unfolding split allValid
-  fed-empty within = fed-sheet [] [] refl fresh-valid within
+  unfolding split allValid linesFit
+  fed-empty within = fed-sheet [] [] refl fresh-valid refl within
 
   -- and for every sheet that ends in LF: its lines are the parts of what stands before that
   pub fed-lines :
       (text : List ℕ) → allValid freshState (split lineFeed text) ≡ true
+      → linesFit (split lineFeed text) ≡ true
       → allWithin (length out) freshState (split lineFeed text) ≡ true
       → fed freshState out 1 (split lineFeed text) ≡ sheetRan (withFeed text)
-  fed-lines text valid within = fed-sheet (withFeed text) (split lineFeed text) (lines-of text) valid within
+  fed-lines text valid fit within = fed-sheet (withFeed text) (split lineFeed text) (lines-of text) valid fit within
 
 -- ---- Where the conditions hold
+
+-- every line fits where all of them do, each with its LF
+joined-fit : (lines : List (List ℕ)) → length (withFeed (joined lineFeed lines)) ≤ sheetBytes → linesFit lines ≡ true
+unfolding linesFit joined
+joined-fit [] h = refl
+joined-fit (line ∷ []) h = simp (le-leb _ _ h)
+joined-fit (line ∷ (next ∷ lines)) h =
+    let later = joined lineFeed (next ∷ lines) in
+    let all = length-append (line ++ (lineFeed ∷ later)) (lineFeed ∷ []) in
+    let parts = length-append line (lineFeed ∷ later) in
+    let one : length (withFeed line) ≤ sheetBytes = omega (arith, length-append line (lineFeed ∷ []), all, parts) in
+    let others : length (withFeed later) ≤ sheetBytes = omega (arith, length-append later (lineFeed ∷ []), all, parts) in
+    simp (le-leb _ _ one, joined-fit (next ∷ lines) others)
+
+lines-fit : (text : List ℕ) → length (withFeed text) ≤ sheetBytes → linesFit (split lineFeed text) ≡ true
+lines-fit text h = joined-fit (split lineFeed text) (rw (joined-split lineFeed text) h)
 
 -- every text finds room where there is room for the longest
 pub short-within : (room : ℕ) → longest ≤ room → (lines : List (List ℕ)) (s : State) → allWithin room s lines ≡ true
@@ -209,10 +233,12 @@ lines-valid (line ∷ lines) s full valid =
     let after = line-valid s full valid line in
     simp (valid, lines-valid lines (lineAnswer s line .state) (after .0) (after .1))
 
--- so a host that lends room for the longest text is answered as the whole sheet is
+-- so a host that lends room for the longest text is answered as the whole sheet is, which is no longer than a sheet may be
 pub fold-is-sheet :
-    (text out : List ℕ) → longest ≤ length out → fed freshState out 1 (split lineFeed text) ≡ sheetRan (withFeed text)
-fold-is-sheet text out h =
+    (text out : List ℕ) → length (withFeed text) ≤ sheetBytes → longest ≤ length out
+    → fed freshState out 1 (split lineFeed text) ≡ sheetRan (withFeed text)
+fold-is-sheet text out fits h =
     fed-lines out text
     (lines-valid (split lineFeed text) freshState full-fresh fresh-valid)
+    (lines-fit text fits)
     (short-within (length out) h (split lineFeed text) freshState)

@@ -4,6 +4,7 @@ ghost use lib.ListN.{length};
 ghost use Prim.Native.Nat.{_≤_};
 ghost use Rattle.event_lines.specs.EventLines.{lineList};
 ghost use Rattle.refusals.specs.Refusals.{refusedForm};
+ghost use Rattle.sizes.specs.Sizes.{sheetBytes};
 ghost use Rattle.debray_allocator.specs.DebrayAllocator.{refusedWith};
 ghost use Rattle.event_sheets.specs.EventSheets.{lineAnswer};
 ghost use Rattle.event_calls.specs.EventCalls.{
@@ -59,6 +60,7 @@ fn step_read(state: State, line: &[u8], list: &mut [u32]) -> Answer
 
 // Reads a line and carries it out. A short line is given a short list, since clearing a long one takes longer than the line.
 fn step_line(state: State, line: &[u8]) -> Answer
+    requires { ⌜ length (now line) ≤ sheetBytes ⌝ }
     ensures { λ r. ⌜ r ≡ lineAnswer state (now (line .entry)) ⌝ }
 {
     if line.len() <= SHORT_LINE {
@@ -71,6 +73,7 @@ fn step_line(state: State, line: &[u8]) -> Answer
 
 // A line is bytes with one line feed, which stands behind all others.
 fn step_bytes(state: State, bytes: &[u8]) -> Answer
+    requires { ⌜ length (now bytes) ≤ sheetBytes ⌝ }
     ensures { λ r. ⌜ r ≡ bytesAnswer state (now (bytes .entry)) ⌝ }
 {
     let end = split::end_of(bytes, LINE_FEED);
@@ -93,14 +96,17 @@ fn refused(state: State, line: usize, refusal: u32) -> Called
     }
 }
 
-// The answer to one line: the state is tested first, then the line, and the room last. The text is made aside, so that a
-// refusal leaves the lent bytes as they were.
+// The answer to one line: the state is tested first, then the length, which is that of a sheet at most, then the line, and
+// the room last. The text is made aside, so that a refusal leaves the lent bytes as they were.
 pub fn call(state: State, line: &[u8], out: &mut [u8]) -> Called
     ensures { λ r. ⌜ r ≡ called state (now (line .entry)) (length (now (out .entry))) ⌝ }
     ensures { λ _. ⌜ now (out .exit) ≡ callFilled state (now (line .entry)) (now (out .entry)) ⌝ }
 {
     if !valid_states::is_valid_state(state) {
         return refused(state, 0, refusals::SIZE);
+    }
+    if SHEET_BYTES < line.len() {
+        return refused(state, 0, refusals::FULL);
     }
     let answer = step_bytes(state, line);
     if 0 < answer.refusal {

@@ -2,11 +2,10 @@
 use Prim.Native.Nat.{ℕ}
 use mathlib.Core.Bool.{Bool, true, false, _&&_}
 use mathlib.Core.List.{List, [], _∷_}
-use lib.Dec.{eqb, leb, ltb}
+use lib.Dec.{eqb, leb}
 use lib.ListN.{length}
 use Rattle.notation.specs.Choice.{if_then_else_}
 use Rattle.notation.specs.Text.{byte, bytes}
-use Rattle.sizes.specs.Sizes.{sheetBytes}
 use Rattle.split.specs.Split.{tab, split}
 use Rattle.words.specs.Words.{same}
 use Rattle.numbers.specs.declared.Number.{Number}
@@ -222,10 +221,10 @@ unfoldable pub fieldsList : List (List ℕ) → List ℕ
 fieldsList [] = []
 fieldsList (word ∷ fields) = entriesBy (wordCode word) fields
 
--- what a line says; one that is longer than a sheet says nothing
+-- what a line says
 unfoldable pub lineSays : List ℕ → Line
-lineSays line = if ltb sheetBytes (length line) then Malformed else fieldsSay (split tab line)
+lineSays line = fieldsSay (split tab line)
 
 -- the entries of its list; a line without a list has none
 unfoldable pub lineList : List ℕ → List ℕ
-lineList line = if ltb sheetBytes (length line) then [] else fieldsList (split tab line)
+lineList line = fieldsList (split tab line)

@@ -4,13 +4,11 @@ use mathlib.Core.Path.{_≡_, refl, ap, sym, _∙_}
 use mathlib.Core.Bool.{Bool, true, false, _&&_, false≢true}
 use mathlib.Core.List.{List, [], _∷_, _++_}
 use native.Mathlib.Omega.{arith}
-use lib.Dec.{eqb, leb, ltb}
+use lib.Dec.{eqb, leb}
 use lib.ListN.{length, take, drop, length-append}
 use lib.Seq.{take-take, take-append-seam}
-use borrow.Author.Tests.{ltb-false}
 use Rattle.notation.specs.Choice.{if_then_else_}
 use Rattle.notation.specs.Text.{bytes}
-use Rattle.sizes.specs.Sizes.{sheetBytes}
 use Rattle.split.specs.Split.{tab, split, joined}
 use Rattle.split.specs.SplitLaws.{split-le}
 use Rattle.split.specs.SplitTrips.{joined-split}
@@ -213,12 +211,9 @@ fields-count (word ∷ fields) = said-counts (wordCode word) fields
 
 line-counts : (line : List ℕ) → Counts (lineSays line) (length (lineList line))
 unfolding lineSays lineList
-line-counts line =
-    elim (ltb sheetBytes (length line)) as
-    (λ t. Counts (if t then Malformed else fieldsSay (split tab line)) (length (if t then [] else fieldsList (split tab line))))
-    [ true ↦ never 0 | false ↦ fields-count (split tab line) ]
+line-counts line = fields-count (split tab line)
 
--- ---- A list has no more entries than a sheet has bytes
+-- ---- A line has no more entries than bytes
 
 leading-le : (entries : Entries) (parts : List (List ℕ)) → length (leading entries parts) ≤ length parts
 unfolding leading
@@ -292,25 +287,9 @@ unfolding fieldsList
 fields-le [] = zero-le
 fields-le (word ∷ fields) = entries-le word (wordCode word) fields
 
--- a line has no more entries than bytes
 pub list-le : (line : List ℕ) → length (lineList line) ≤ length line
 unfolding lineList
-list-le line =
-    elim (ltb sheetBytes (length line)) as (λ t. length (if t then [] else fieldsList (split tab line)) ≤ length line) [
-      | true ↦ zero-le
-      | false ↦ omega (arith, fields-le (split tab line), ap length (joined-split tab line))
-    ]
-
--- nor more than a sheet
-pub list-within : (line : List ℕ) → length (lineList line) ≤ sheetBytes
-unfolding lineList
-list-within line =
-    elim (ltb sheetBytes (length line)) as
-    (λ t. ltb sheetBytes (length line) ≡ t → length (if t then [] else fieldsList (split tab line)) ≤ sheetBytes) [
-      | true ↦ λ e. zero-le
-      | false ↦ λ e. omega (arith, fields-le (split tab line), ap length (joined-split tab line), ltb-false sheetBytes (length line) e)
-    ]
-    refl
+list-le line = omega (arith, fields-le (split tab line), ap length (joined-split tab line))
 
 -- ---- The entries stand first in the lent list
 

@@ -55,7 +55,6 @@ use events::Event;
 use forms::GenContext;
 use forms::Level;
 use numbers::Number;
-use sizes::SHEET_BYTES;
 use split::TAB;
 use targets::Target;
 
@@ -557,9 +556,6 @@ pub fn read_line(line: &[u8], list: &mut [u32]) -> Line
     ensures { λ r. ⌜ r ≡ lineSays (now (line .entry)) ⌝ }
     ensures { λ _. ⌜ now (list .exit) ≡ printed (now (list .entry)) 0 (lineList (now (line .entry))) ⌝ }
 {
-    if SHEET_BYTES < line.len() {
-        return Line::Malformed;
-    }
     let end = split::end_of(line, TAB);
     let word = split::part_before(line, end);
     let rest = fields::rest_after(line, end);

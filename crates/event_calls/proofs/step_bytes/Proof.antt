@@ -1,6 +1,6 @@
 -- `event_calls::step_bytes`: bytes without a line feed, bytes behind it, or a line. Assumes nothing.
 use borrow.Author.Needs.{needs}
-use Rattle.event_calls.specs.CallLaws.{bytes-open, bytes-more, bytes-line}
+use Rattle.event_calls.specs.CallLaws.{line-fits, bytes-open, bytes-more, bytes-line}
 use Rattle.event_calls.proofs.step_bytes.Statement.{statement}
 use Rattle.event_calls.proofs.step_bytes.Tie as tie
 
@@ -26,7 +26,9 @@ part-before-requires : tie.Need-part-before-requires
 part-before-requires c κs = search needs
 
 step-line-requires : tie.Need-step-line-requires
-step-line-requires c κs = search needs
+step-line-requires c κs =
+    let start = c .before .before .before .before .before in
+    line-fits (start .args .bytes .now) (c .before .before .before .end-of .ensures) (c .part-before .ensures) (start .pre)
 
 returns-3 : tie.Need-returns-3
 returns-3 c =
