@@ -2,16 +2,17 @@
 -- in order, 3 exactly if a number is outside its size or names no variable; then 7, of most events, exactly if its list is
 -- too long, the record is one too many or the argument counter stands at 64 (of the others see CarriedExactly). And a sheet:
 -- it is refused as a whole as 7 exactly if it is too long, and as 9 exactly if nothing else refuses it and the text is longer
--- than the room.
+-- than the room. And a call: it is refused at line 0 as 3 exactly if the state is not valid, and as 7 exactly if the state is
+-- valid and the bytes are longer than a sheet.
 use Prim.Native.Nat.{ℕ, suc, _≤_, _<_}
 use mathlib.Core.Path.{_≡_, refl, ap, _∙_}
 use mathlib.Core.Logic.{_≢_, _↔_}
-use mathlib.Core.Bool.{Bool, true, false, _&&_}
+use mathlib.Core.Bool.{Bool, true, false, _&&_, not}
 use mathlib.Core.List.{List, [], _∷_}
 use native.Mathlib.Omega.{arith}
 use lib.Dec.{ltb}
 use lib.ListN.{length}
-use borrow.Author.Tests.{ltb-true, ltb-false, lt-ltb, le-ltb}
+use borrow.Author.Tests.{ltb-true, ltb-false, lt-ltb, le-ltb, not-true, not-false}
 use Rattle.refusals.specs.Refusals.{accepted, refusedForm, refusedOrder, refusedSize, refusedStop, refusedRegister, refusedSlot, refusedFull, refusedRoom}
 use Rattle.sizes.specs.Sizes.{sheetBytes}
 use Rattle.split.specs.Split.{lineFeed, split}
@@ -29,6 +30,8 @@ use Rattle.answered.specs.declared.Answered.{Answered}
 use Rattle.answered.specs.declared.Answered.the-variants.{Written, Refused}
 use Rattle.event_sheets.specs.EventSheets.{Ran, saidAnswer, lineAnswer, lastRan, lineRan, ran, sheetRan, answeredBy, answered}
 use Rattle.valid_states.specs.ValidStates.{isValid}
+use Rattle.event_calls.specs.declared.Called.{Called}
+use Rattle.event_calls.specs.EventCalls.{bytesAnswer, textOf, calledBy, called}
 use Rattle.invariants.specs.Lists.{either, by-test}
 use Rattle.valid_stays.specs.Fits.{Full}
 use Rattle.valid_stays.specs.FromTests.{kindsOf, valid-small, valid-fits}
@@ -316,3 +319,51 @@ module _ (sheet : List ℕ) (lent : ℕ) where
 
   pub room-exactly : (answered sheet lent ≡ Refused 0 refusedRoom) ↔ Roomless
   room-exactly = (room-only, room-so)
+
+-- ---- A call: 3 for its state, first of all, and then 7 for its length
+
+module _ (s : State) (bytes : List ℕ) (lent : ℕ) where
+  -- at line 0 a line is refused for the room alone
+  abbrev RoomOnly : Called → Type 0
+  RoomOnly c = (refusal : ℕ) → c .answered ≡ Refused 0 refusal → refusal ≡ refusedRoom
+
+  by-line : (a : Answer) → RoomOnly (calledBy s a lent)
+  unfolding calledBy
+  by-line a =
+      either RoomOnly (ltb 0 (a .refusal)) (λ refusal same. absurd (omega (arith, ap lineIn same)))
+      (either RoomOnly (ltb lent (length (textOf a))) (λ refusal same. omega (arith, ap refusalIn same))
+      (λ refusal same. (let z : _≡_ {A = ℕ} 0 1 = cc in absurd (omega arith))))
+
+  state-only : called s bytes lent .answered ≡ Refused 0 refusedSize → isValid s ≡ false
+  unfolding called
+  state-only =
+      let Invalid : Called → Type 0 = λ c. c .answered ≡ Refused 0 refusedSize → isValid s ≡ false in
+      by-test Invalid (not (isValid s)) (λ e same. not-true _ e)
+      (λ e. either Invalid (ltb sheetBytes (length bytes)) (λ same. absurd (omega (arith, ap refusalIn same)))
+      (λ same. absurd (omega (arith, by-line (bytesAnswer s bytes) refusedSize same))))
+
+  state-given : isValid s ≡ false → called s bytes lent .answered ≡ Refused 0 refusedSize
+  unfolding called
+  state-given e = simp e
+
+  pub state-exactly : (called s bytes lent .answered ≡ Refused 0 refusedSize) ↔ (isValid s ≡ false)
+  state-exactly = (state-only, state-given)
+
+  -- a line longer than a sheet, given to a valid state
+  abbrev pub TooLong : Type 0
+  TooLong = (isValid s ≡ true) × (sheetBytes < length bytes)
+
+  long-only : called s bytes lent .answered ≡ Refused 0 refusedFull → TooLong
+  unfolding called
+  long-only =
+      let Long : Called → Type 0 = λ c. c .answered ≡ Refused 0 refusedFull → TooLong in
+      by-test Long (not (isValid s)) (λ e same. absurd (omega (arith, ap refusalIn same)))
+      (λ e. by-test Long (ltb sheetBytes (length bytes)) (λ long same. (not-false _ e, ltb-true sheetBytes (length bytes) long))
+      (λ fits same. absurd (omega (arith, by-line (bytesAnswer s bytes) refusedFull same))))
+
+  long-given : TooLong → called s bytes lent .answered ≡ Refused 0 refusedFull
+  unfolding called
+  long-given h = simp (h .0, lt-ltb sheetBytes (length bytes) (h .1))
+
+  pub long-exactly : (called s bytes lent .answered ≡ Refused 0 refusedFull) ↔ TooLong
+  long-exactly = (long-only, long-given)

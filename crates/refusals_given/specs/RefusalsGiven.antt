@@ -3,13 +3,13 @@
 use Prim.Native.Nat.{ℕ, zero, suc, _+_, _*_, _≤_}
 use mathlib.Core.Path.{_≡_, refl, sym, ap, _∙_}
 use mathlib.Core.Logic.{_≢_}
-use mathlib.Core.Bool.{true}
+use mathlib.Core.Bool.{true, not}
 use mathlib.Core.List.{List, [], _∷_, List·Memᴰ·head, List·Memᴰ·tail}
 use native.Mathlib.Omega.{arith}
 use lib.Dec.{eqb, ltb}
 use lib.IntN.{ℤ, pos, negsuc, negℤ}
 use lib.ListN.{length}
-use borrow.Author.Tests.{ltb-true}
+use borrow.Author.Tests.{ltb-true, not-false}
 use Rattle.refusals.specs.Refusals.{accepted, refusedForm, refusedOrder, refusedSize, refusedStop, refusedRegister, refusedSlot, refusedFull, refusedUnreachable, refusedRoom}
 use Rattle.sizes.specs.Sizes.{sheetBytes}
 use Rattle.split.specs.Split.{lineFeed, split}
@@ -193,10 +193,11 @@ module _ (s : State) (tables : Full s) where
   unfolding called calledBy bytesAnswer
   call-tells bytes lent =
       let a = bytesAnswer s bytes in
-      by-test CallTells (isValid s)
-      (λ valid. by-test CallTells (ltb 0 (a .refusal)) (λ e. (ltb-true 0 (a .refusal) e, small-told (parts-small valid (split lineFeed bytes))))
-      (λ e. either CallTells (ltb lent (length (textOf a))) roomless tt))
-      (λ e. (omega arith, (omega arith, omega arith)))
+      by-test CallTells (not (isValid s)) (λ e. (omega arith, (omega arith, omega arith)))
+      (λ valid. either CallTells (ltb sheetBytes (length bytes)) (omega arith, (omega arith, omega arith))
+      (by-test CallTells (ltb 0 (a .refusal))
+      (λ e. (ltb-true 0 (a .refusal) e, small-told (parts-small (not-false _ valid) (split lineFeed bytes))))
+      (λ e. either CallTells (ltb lent (length (textOf a))) roomless tt)))
 
 pub last-tells : (s : State) (lent : ℕ) → TellsApart (lastAnswered s lent)
 unfolding lastAnswered
