@@ -6,7 +6,7 @@
 use std::fmt;
 use std::mem::{size_of, MaybeUninit};
 
-/// A sheet that is longer is refused, `Refusal::Full` on line 0.
+/// A sheet that is longer is refused, `Refusal::Full` on line 0, and so is a line that is given alone.
 pub const SHEET_BYTES: usize = 65_536;
 
 /// No event prints more, nor does the end of a clause.
@@ -259,7 +259,8 @@ impl Clause {
     }
 
     /// What the event of one line, its LF included, prints stands at the start of `out`, as with `events`. The line's
-    /// own refusals are on line 1, that for the room on line 0; the clause is as it was then.
+    /// own refusals are on line 1, those for its length, as of a sheet, and for the room on line 0; the clause is as it
+    /// was then.
     pub fn event(&mut self, line: &[u8], out: &mut [u8]) -> Result<usize, Refused> {
         // SAFETY: the three parts are valid for their lengths, not null, and do not overlap.
         answered(unsafe {

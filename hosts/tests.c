@@ -306,14 +306,21 @@ static void expect_line(FenomiraskState *state, const char *line, const char *te
     count(same_state(state, &large), what, "the state with more room", bytes, 0, 0);
 }
 
-/* A line that is refused whatever the room, on line 1. */
-static void expect_line_refusal(const char *what, FenomiraskState *state, const void *line, size_t line_bytes,
-                                int refusal)
+/* A line that is refused whatever the room. */
+static void expect_refused(const char *what, FenomiraskState *state, const void *line, size_t line_bytes,
+                           int64_t wanted)
 {
     static const size_t some[] = {FENOMIRASK_EVENT_ROOM, 1, 0};
     size_t i;
     for (i = 0; i < sizeof some / sizeof some[0]; i++)
-        expect_call(what, state, line, line_bytes, some[i], -(16 + refusal), "");
+        expect_call(what, state, line, line_bytes, some[i], wanted, "");
+}
+
+/* So it is on line 1. */
+static void expect_line_refusal(const char *what, FenomiraskState *state, const void *line, size_t line_bytes,
+                                int refusal)
+{
+    expect_refused(what, state, line, line_bytes, -(16 + refusal));
 }
 
 static void expect_number(const char *what, uint64_t got, uint64_t wanted)
@@ -483,9 +490,7 @@ static void fields(void)
 /* Lines that are refused, each with the state as it was; the same state takes a good line then. */
 static void single_lines(void)
 {
-    static uint8_t long_line[2 * FENOMIRASK_SHEET_BYTES];
     FenomiraskState s, bad;
-    size_t bytes;
     fenomirask_fresh(&s);
     expect_line_refusal("no byte", &s, "", 0, FENOMIRASK_UNKNOWN_FORM);
     expect_line_refusal("an LF", &s, "\n", 1, FENOMIRASK_UNKNOWN_FORM);
@@ -497,15 +502,6 @@ static void single_lines(void)
     expect_line_refusal("no variable", &s, "safe\t0\n", 7, FENOMIRASK_OUTSIDE_SIZE);
     expect_line_refusal("no open branch", &s, "take\n", 5, FENOMIRASK_RUST_STOPS);
     expect_line(&s, NULL, "end\t1\t0\n");
-    memset(long_line, '\n', sizeof long_line);
-    expect_line_refusal("131,072 LFs", &s, long_line, sizeof long_line, FENOMIRASK_UNKNOWN_FORM);
-    memset(long_line, 'a', sizeof long_line);
-    expect_line_refusal("131,072 bytes", &s, long_line, sizeof long_line, FENOMIRASK_UNKNOWN_FORM);
-    memcpy(long_line, "head", 4);
-    for (bytes = 4; bytes + 2 < FENOMIRASK_SHEET_BYTES; bytes += 2)
-        memcpy(long_line + bytes, "\t-", 2);
-    memcpy(long_line + bytes, "\n", 1);
-    expect_line_refusal("a line of 65,535 bytes", &s, long_line, bytes + 1, FENOMIRASK_FULL);
     expect_line(&s, "perm\t1\n", "");
     expect_line(&s, "reset\n", "");
     expect_line_refusal("a record after an event", &s, "perm\t1\n", 7, FENOMIRASK_FORBIDDEN_ORDER);
@@ -520,6 +516,48 @@ static void single_lines(void)
     expect_call("no state, no room", &bad, NULL, 0, 0, -FENOMIRASK_OUTSIDE_SIZE, "");
     fenomirask_fresh(&bad);
     expect_line(&bad, NULL, "end\t1\t0\n");
+}
+
+/* A line of so many bytes, its LF counted: the start, and more behind it as often as there is place. */
+static void put_long_line(uint8_t *line, size_t bytes, const char *start, const char *more)
+{
+    size_t at = repeat(line, start, 1);
+    at += repeat(line + at, more, (bytes - 1 - at) / strlen(more));
+    at += repeat(line + at, "\n", 1);
+    count(at == bytes, "a line's length", start, 0, (int64_t)at, (int64_t)bytes);
+}
+
+/* A line as long as a sheet may be is judged as any other. One byte more, LF or no LF, and it is refused as a sheet is,
+ * before it is looked at and after the state. */
+static void long_lines(void)
+{
+    static uint8_t line[2 * FENOMIRASK_SHEET_BYTES];
+    FenomiraskState s, bad;
+    fenomirask_fresh(&s);
+    memset(&bad, 0xAA, sizeof bad);
+    memset(line, '\n', sizeof line);
+    expect_line_refusal("65,536 LFs", &s, line, 65536, FENOMIRASK_UNKNOWN_FORM);
+    expect_refused("65,537 LFs", &s, line, 65537, -FENOMIRASK_FULL);
+    expect_refused("131,072 LFs", &s, line, 131072, -FENOMIRASK_FULL);
+    memset(line, 'a', sizeof line);
+    expect_line_refusal("65,536 bytes and no LF", &s, line, 65536, FENOMIRASK_UNKNOWN_FORM);
+    expect_refused("65,537 bytes and no LF", &s, line, 65537, -FENOMIRASK_FULL);
+    expect_refused("131,072 bytes and no LF", &s, line, 131072, -FENOMIRASK_FULL);
+    put_long_line(line, 65536, "a", "a");
+    expect_line_refusal("65,536 bytes, an unknown word", &s, line, 65536, FENOMIRASK_UNKNOWN_FORM);
+    expect_refused("no state, 65,536 bytes", &bad, line, 65536, -FENOMIRASK_OUTSIDE_SIZE);
+    put_long_line(line, 65537, "a", "a");
+    expect_refused("65,537 bytes, an unknown word", &s, line, 65537, -FENOMIRASK_FULL);
+    expect_refused("no state, 65,537 bytes", &bad, line, 65537, -FENOMIRASK_OUTSIDE_SIZE);
+    put_long_line(line, 65535, "head", "\t-");
+    expect_line_refusal("65,535 bytes, too many arguments", &s, line, 65535, FENOMIRASK_FULL);
+    put_long_line(line, 65537, "head", "\t-");
+    expect_refused("65,537 bytes, too many arguments", &s, line, 65537, -FENOMIRASK_FULL);
+    put_long_line(line, 65536, "temp\tm100\t1\th:1", ",h:1");
+    expect_line_refusal("65,536 bytes, too many uses", &s, line, 65536, FENOMIRASK_FULL);
+    put_long_line(line, 65537, "temp\th\t1\th:1", ",h:1");
+    expect_refused("65,537 bytes, too many uses", &s, line, 65537, -FENOMIRASK_FULL);
+    expect_line(&s, "perm\t1\n", "");
 }
 
 /* ---- States that are none */
@@ -1021,6 +1059,7 @@ int main(int words, char **paths)
     fresh_states();
     fields();
     single_lines();
+    long_lines();
     spoilt_states();
     for (i = 1; i < words; i++) {
         struct stream stream = read_stream(paths[i]);

@@ -281,10 +281,15 @@ impl Counts {
     }
 
     /// A line that is refused whatever the room.
-    fn expect_line_refusal(&mut self, clause: &mut Clause, line: &[u8], refusal: Refusal) {
+    fn expect_refused(&mut self, clause: &mut Clause, line: &[u8], refused: Refused) {
         for room in [EVENT_ROOM, 1, 0] {
-            self.expect_call(clause, Some(line), room, Err(on_line(1, refusal)));
+            self.expect_call(clause, Some(line), room, Err(refused));
         }
+    }
+
+    /// So it is on line 1.
+    fn expect_line_refusal(&mut self, clause: &mut Clause, line: &[u8], refusal: Refusal) {
+        self.expect_refused(clause, line, on_line(1, refusal));
     }
 }
 
@@ -495,17 +500,55 @@ fn single_lines(counts: &mut Counts) {
     ] {
         counts.expect_line_refusal(&mut clause, line.as_bytes(), Refusal::UnknownForm);
     }
-    counts.expect_line_refusal(
-        &mut clause,
-        &vec![b'\n'; 2 * SHEET_BYTES],
-        Refusal::UnknownForm,
-    );
     counts.expect_line_refusal(&mut clause, b"safe\t0\n", Refusal::OutsideSize);
     counts.expect_line_refusal(&mut clause, b"take\n", Refusal::RustStops);
     counts.expect_line(&mut clause, Some(b"perm\t1\n"), b"");
     counts.expect_line(&mut clause, Some(b"reset\n"), b"");
     counts.expect_line_refusal(&mut clause, b"perm\t1\n", Refusal::ForbiddenOrder);
     counts.expect_line(&mut clause, None, b"end\t1\t0\n");
+}
+
+/// A line of so many bytes, its LF counted: the start, and more behind it as often as there is place.
+fn long_line(bytes: usize, start: &str, more: &str) -> Vec<u8> {
+    let times = (bytes - 1 - start.len()) / more.len();
+    let line = [start, &more.repeat(times), "\n"].concat();
+    assert_eq!(line.len(), bytes);
+    line.into_bytes()
+}
+
+/// A line as long as a sheet may be is judged as any other. One byte more, LF or no LF, and it is refused as a sheet
+/// is, before it is looked at and after the state.
+fn long_lines(counts: &mut Counts) {
+    let mut clause = Clause::new();
+    let mut state = fresh_state();
+    state.counters.arg_c = 0;
+    let mut bad = Clause::with_state(state);
+    let full = [
+        (vec![b'\n'; SHEET_BYTES], Refusal::UnknownForm),
+        (vec![b'a'; SHEET_BYTES], Refusal::UnknownForm),
+        (long_line(SHEET_BYTES, "a", "a"), Refusal::UnknownForm),
+        (
+            long_line(SHEET_BYTES, "temp\tm100\t1\th:1", ",h:1"),
+            Refusal::Full,
+        ),
+    ];
+    for (line, refusal) in &full {
+        counts.expect_line_refusal(&mut clause, line, *refusal);
+        counts.expect_refused(&mut bad, line, BAD_STATE);
+    }
+    let past = [
+        vec![b'\n'; SHEET_BYTES + 1],
+        vec![b'a'; SHEET_BYTES + 1],
+        vec![b'a'; 2 * SHEET_BYTES],
+        long_line(SHEET_BYTES + 1, "a", "a"),
+        long_line(SHEET_BYTES + 1, "head", "\t-"),
+        long_line(SHEET_BYTES + 1, "temp\th\t1\th:1", ",h:1"),
+    ];
+    for line in &past {
+        counts.expect_refused(&mut clause, line, TOO_LONG);
+        counts.expect_refused(&mut bad, line, BAD_STATE);
+    }
+    counts.expect_line(&mut clause, Some(b"perm\t1\n"), b"");
 }
 
 /// States with one number changed, that are valid or not.
@@ -756,6 +799,7 @@ fn main() {
     let clause = reached(&mut counts);
     spoilt_states(&mut counts, &clause);
     single_lines(&mut counts);
+    long_lines(&mut counts);
     for path in std::env::args().skip(1) {
         let data = std::fs::read(&path).unwrap_or_else(|error| {
             println!("{path}: {error}");

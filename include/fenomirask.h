@@ -32,7 +32,7 @@ extern "C" {
  * An answer that is not negative is the count of bytes written to the start of `out`; the bytes past them are as they
  * were. A negative answer is a refusal, -(16 * line + refusal), and every byte of `out` is as it was. Lines count from
  * 1; line 0 stands for the whole sheet. The first bad line decides, and in a line the order of document 01. A call with
- * one line counts it as line 1; there line 0 stands for the state or the room.
+ * one line counts it as line 1; there line 0 stands for the state, the length or the room.
  */
 
 /* Whether an answer is a refusal. */
@@ -336,7 +336,8 @@ void fenomirask_fresh(FenomiraskState *state);
 
 /* The answer to one line of an event sheet, its LF included: what its event prints, often nothing.
  *
- * The refusals are FENOMIRASK_OUTSIDE_SIZE on line 0, where the state is not valid; the line's own on line 1, of which
+ * The refusals are, in this order, FENOMIRASK_OUTSIDE_SIZE on line 0, where the state is not valid; FENOMIRASK_FULL on
+ * line 0, where the bytes are more than FENOMIRASK_SHEET_BYTES, LF or no LF; the line's own on line 1, of which
  * FENOMIRASK_UNKNOWN_FORM also where the LF is missing or anything stands behind it; and FENOMIRASK_NO_ROOM on line 0,
  * which never comes with FENOMIRASK_EVENT_ROOM bytes. A refusal leaves the state, as well as `out`, as it was. */
 int64_t fenomirask_event(FenomiraskState *state, const uint8_t *line, size_t line_bytes, uint8_t *out,
