@@ -3,9 +3,9 @@
 -- too long, the record is one too many or the argument counter stands at 64 (of the others see CarriedExactly). And a sheet:
 -- it is refused as a whole as 7 exactly if it is too long, and as 9 exactly if nothing else refuses it and the text is longer
 -- than the room. And a call: it is refused at line 0 as 3 exactly if the state is not valid, and as 7 exactly if the state is
--- valid and the bytes are longer than a sheet.
+-- valid and the bytes are longer than a sheet; else at line 1 as 1 exactly if the bytes are no line or its form is wrong.
 use Prim.Native.Nat.{ℕ, suc, _≤_, _<_}
-use mathlib.Core.Path.{_≡_, refl, ap, _∙_}
+use mathlib.Core.Path.{_≡_, refl, ap, sym, _∙_}
 use mathlib.Core.Logic.{_≢_, _↔_}
 use mathlib.Core.Bool.{Bool, true, false, _&&_, not}
 use mathlib.Core.List.{List, [], _∷_}
@@ -31,7 +31,8 @@ use Rattle.answered.specs.declared.Answered.the-variants.{Written, Refused}
 use Rattle.event_sheets.specs.EventSheets.{Ran, saidAnswer, lineAnswer, lastRan, lineRan, ran, sheetRan, answeredBy, answered}
 use Rattle.valid_states.specs.ValidStates.{isValid}
 use Rattle.event_calls.specs.declared.Called.{Called}
-use Rattle.event_calls.specs.EventCalls.{bytesAnswer, textOf, calledBy, called}
+use Rattle.event_calls.specs.EventCalls.{partsAnswer, bytesAnswer, textOf, calledBy, called}
+use Rattle.event_calls.specs.CallLaws.{called-valid, by-refused}
 use Rattle.invariants.specs.Lists.{either, by-test}
 use Rattle.valid_stays.specs.Fits.{Full}
 use Rattle.valid_stays.specs.FromTests.{kindsOf, valid-small, valid-fits}
@@ -367,3 +368,49 @@ module _ (s : State) (bytes : List ℕ) (lent : ℕ) where
 
   pub long-exactly : (called s bytes lent .answered ≡ Refused 0 refusedFull) ↔ TooLong
   long-exactly = (long-only, long-given)
+
+-- a line is bytes with one LF, which stands behind all others; here there is none, or its form is wrong
+abbrev pub Formless : List (List ℕ) → Type 0
+Formless [] = Unit {0}
+Formless (left ∷ []) = Unit {0}
+Formless (line ∷ ([] ∷ [])) = lineSays line ≡ Malformed
+Formless (line ∷ ([] ∷ (other ∷ others))) = Unit {0}
+Formless (line ∷ ((byte ∷ more) ∷ others)) = Unit {0}
+
+module _ (s : State) (full : Full s) (valid : isValid s ≡ true) where
+  formless-only : (parts : List (List ℕ)) → partsAnswer s parts .refusal ≡ refusedForm → Formless parts
+  formless-only [] e = tt
+  formless-only (left ∷ []) e = tt
+  formless-only (line ∷ ([] ∷ [])) e = form-exactly s full valid line .0 e
+  formless-only (line ∷ ([] ∷ (other ∷ others))) e = tt
+  formless-only (line ∷ ((byte ∷ more) ∷ others)) e = tt
+
+  formless-given : (parts : List (List ℕ)) → Formless parts → partsAnswer s parts .refusal ≡ refusedForm
+  unfolding refusedWith
+  formless-given [] h = refl
+  formless-given (left ∷ []) h = refl
+  formless-given (line ∷ ([] ∷ [])) h = form-exactly s full valid line .1 h
+  formless-given (line ∷ ([] ∷ (other ∷ others))) h = refl
+  formless-given (line ∷ ((byte ∷ more) ∷ others)) h = refl
+
+  module _ (lent : ℕ) where
+    on-its-line : (a : Answer) → calledBy s a lent .answered ≡ Refused 1 refusedForm → a .refusal ≡ refusedForm
+    unfolding calledBy
+    on-its-line a =
+        let Same : Called → Type 0 = λ c. c .answered ≡ Refused 1 refusedForm → a .refusal ≡ refusedForm in
+        either Same (ltb 0 (a .refusal)) (λ same. ap refusalIn same)
+        (either Same (ltb lent (length (textOf a))) (λ same. absurd (omega (arith, ap lineIn same)))
+        (λ same. absurd (omega (arith, ap lineIn same))))
+
+    pub formless-exactly :
+        (bytes : List ℕ) → length bytes ≤ sheetBytes
+        → (called s bytes lent .answered ≡ Refused 1 refusedForm) ↔ Formless (split lineFeed bytes)
+    unfolding bytesAnswer
+    formless-exactly bytes fits =
+        let a = bytesAnswer s bytes in
+        let parts = split lineFeed bytes in
+        let same : called s bytes lent ≡ calledBy s a lent = called-valid s bytes lent valid fits in (
+          λ e. formless-only parts (on-its-line a (ap (λ c. c .answered) (sym same) ∙ e)),
+          λ h. (let e : a .refusal ≡ refusedForm = formless-given parts h in
+              ap (λ c. c .answered) (same ∙ by-refused s a lent (omega (arith, e))) ∙ ap (Refused 1) e),
+        )
