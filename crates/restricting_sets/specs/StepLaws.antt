@@ -1,22 +1,24 @@
 -- The steps of populating: after one use, after the uses of a variable, after those of all.
-use Prim.Native.Nat.{ℕ, suc, _≤_, _<_}
+use Prim.Native.Nat.{ℕ, suc, _-_, _^_, _≤_, _<_}
 use mathlib.Core.Path.{_≡_, refl, sym, ap, ap₂, _∙_}
-use mathlib.Core.Bool.{Bool, true, false, _&&_, _||_, and-true, and-false, or-assoc, or-false, and-or-distrib-right}
+use mathlib.Core.Bool.{Bool, true, false, not, _&&_, _||_, and-true, and-false, or-assoc, or-false}
 use mathlib.Core.List.{List}
 use native.Mathlib.Omega.{arith}
-use lib.Dec.{eqb}
-use lib.ListN.{length, getD, take}
-use lib.Seq.{take-all}
-use borrow.Author.Tests.{eq-eqb, ne-eqb, eqb-true, eqb-false}
+use lib.Bits.{bitAnd, and-le-l}
+use lib.Dec.{eqb, ltb}
+use lib.ListN.{length, getD}
+use borrow.Author.Tests.{eq-eqb, ne-eqb, eqb-true, eqb-false, lt-ltb, le-ltb}
 use Rattle.notation.specs.Choice.{if_then_else_}
 use Rattle.sizes.specs.Sizes.{variables, registers}
-use Rattle.bit_set.specs.BitSet.{Set, has, inserted}
+use Rattle.bit_set.specs.BitSet.{Set, members, has, emptySet, inserted, union}
+use Rattle.bit_set.specs.DigitLaws.{has-and, has-complement}
+use Rattle.bit_set.specs.BitSetLaws.{has-empty, has-union, set-empty, set-union}
 use Rattle.bit_set.specs.Collected.{collected}
-use Rattle.bit_set.specs.CollectedLaws.{has-collected, collected-is, collected-same, inserted-if}
+use Rattle.bit_set.specs.CollectedLaws.{set-collected, has-collected, collected-is, collected-same}
 use Rattle.temp_var_data.specs.Lists.{any}
-use Rattle.temp_var_data.specs.ListLaws.{any-passed}
-use Rattle.temp_var_data.specs.Uses.{lastContext, useCode, registerOf, usesOf, containsUse, conflictOf}
+use Rattle.temp_var_data.specs.Uses.{lastContext, useCode, registerOf, usesOf, usesRegister, containsUse, conflictOf}
 use Rattle.temp_var_data.specs.UsesLaws.{register-of-use}
+use Rattle.temp_var_data.specs.GivenLaws.{givenFirst, given-next, given-all}
 use Rattle.restricting_sets.specs.Restricting.{below, chunkOf, isTemporary, beforeOrFree, restricts, noUseOf, conflictAt}
 use Rattle.restricting_sets.specs.BelowLaws.{any-below-next}
 
@@ -24,102 +26,97 @@ use Rattle.restricting_sets.specs.BelowLaws.{any-below-next}
 nothing-more : (s : ℕ) (more : ℕ → Bool) → Set s → ((r : ℕ) → more r ≡ false) → s ≡ collected (λ r. has s r || more r)
 nothing-more s more h e = collected-is s _ h (λ r k. rw (e r) (sym (or-false (has s r))))
 
-one-more : (a b c d : Bool) → (a || (b && d) || (c && d)) ≡ (a || ((b || c) && d))
-one-more a b c d = or-assoc a (b && d) (c && d) ∙ ap (λ (x : Bool). a || x) (sym (and-or-distrib-right b c d))
+-- ---- The uses of one variable, one by one: those in a context
 
--- ---- The uses of one variable, one by one: those in a context keep away the registers that pass `free`
+module _ (context : ℕ) where
+  abbrev pub isIn : ℕ → ℕ → Bool
+  isIn r code = eqb (useCode context r) code
 
-module _ (context : ℕ) (free : ℕ → Bool) where
   unfoldable pub withUse : ℕ → ℕ → ℕ
-  withUse noUseSet code =
-      if eqb (useCode context (registerOf code)) code && free (registerOf code) then inserted noUseSet (registerOf code) else noUseSet
+  withUse given code = if isIn (registerOf code) code then inserted given (registerOf code) else given
 
-  module _ (noUseSet code register : ℕ) (e : register ≡ registerOf code) where
-    pub use-elsewhere : (useCode context register ≡ code → ⊥) → noUseSet ≡ withUse noUseSet code
+  module _ (given code register : ℕ) (e : register ≡ registerOf code) where
+    pub use-elsewhere : (useCode context register ≡ code → ⊥) → given ≡ withUse given code
     unfolding withUse
     use-elsewhere other = rw (← e) (simp (ne-eqb _ _ other))
 
-    pub use-allowed : free register ≡ false → noUseSet ≡ withUse noUseSet code
+    pub use-inserted : useCode context register ≡ code → inserted given register ≡ withUse given code
     unfolding withUse
-    use-allowed f = rw (← e) (simp (f, and-false))
-
-    pub use-inserted :
-        useCode context register ≡ code → free register ≡ true → inserted noUseSet register ≡ withUse noUseSet code
-    unfolding withUse
-    use-inserted same f = rw (← e) (simp (eq-eqb _ _ same, f))
-
-  -- the uses passed
-  unfoldable pub withFirst : ℕ → List ℕ → ℕ → ℕ
-  withFirst noUseSet useSet i = collected (λ r. has noUseSet r || (containsUse (take i useSet) (useCode context r) && free r))
-
-  pub with-none : (noUseSet : ℕ) (useSet : List ℕ) → Set noUseSet → noUseSet ≡ withFirst noUseSet useSet 0
-  unfolding withFirst containsUse any
-  with-none noUseSet useSet s = nothing-more noUseSet _ s (λ r. refl)
+    use-inserted same = rw (← e) (simp (eq-eqb _ _ same))
 
   -- a use is one of r in the context if its register is r and its context is the context
-  same-use :
-      (code r : ℕ) → r ≤ registers
-      → (eqb (useCode context (registerOf code)) code && free (registerOf code) && eqb r (registerOf code))
-      ≡ (eqb (useCode context r) code && free r)
+  same-use : (code r : ℕ) → r ≤ registers → isIn r code ≡ (isIn (registerOf code) code && eqb r (registerOf code))
   same-use code r h =
       let register : ℕ = registerOf code in
-      elim (eqb r register) as
-      (λ t. eqb r register ≡ t → (eqb (useCode context register) code && free register && t) ≡ (eqb (useCode context r) code && free r)) [
-        | true ↦ λ e. and-true (eqb (useCode context register) code && free register) ∙ ap (λ (q : ℕ). eqb (useCode context q) code && free q) (sym (eqb-true r register e))
-        | false ↦ λ e. and-false (eqb (useCode context register) code && free register) ∙ sym (simp (ne-eqb (useCode context r) code (λ same. eqb-false r register e (sym (register-of-use context r (omega arith)) ∙ ap registerOf same))))
+      elim (eqb r register) as (λ t. eqb r register ≡ t → isIn r code ≡ (isIn register code && t)) [
+        | true ↦ λ e. ap (λ (q : ℕ). isIn q code) (eqb-true r register e) ∙ sym (and-true (isIn register code))
+        | false ↦ λ e. ne-eqb (useCode context r) code (λ same. eqb-false r register e (sym (register-of-use context r (omega arith)) ∙ ap registerOf same)) ∙ sym (and-false (isIn register code))
       ]
       refl
 
-  module _ (noUseSet : ℕ) (useSet : List ℕ) (i : ℕ) where
-    contains-next :
-        (code : ℕ) → i < length useSet
-        → containsUse (take (suc i) useSet) code ≡ (containsUse (take i useSet) code || eqb code (getD useSet i 0))
-    unfolding containsUse
-    contains-next code h = any-passed (λ entry. eqb code entry) useSet i h
+  pub with-next :
+      (useSet : List ℕ) (i before : ℕ) → before ≡ givenFirst isIn useSet i → i < length useSet
+      → withUse before (getD useSet i 0) ≡ givenFirst isIn useSet (suc i)
+  unfolding withUse
+  with-next useSet i before e h =
+      let code : ℕ = getD useSet i 0 in
+      rw e (given-next isIn useSet i (registerOf code) (isIn (registerOf code) code) h (same-use code))
 
-    pub with-next :
-        (before : ℕ) → before ≡ withFirst noUseSet useSet i → i < length useSet
-        → withUse before (getD useSet i 0) ≡ withFirst noUseSet useSet (suc i)
-    unfolding withUse withFirst
-    with-next before e h =
-        let code : ℕ = getD useSet i 0 in
-        rw e
-        (inserted-if
-        (λ r. has noUseSet r || (containsUse (take i useSet) (useCode context r) && free r))
-        (registerOf code) (eqb (useCode context (registerOf code)) code && free (registerOf code))
-        ∙ collected-same _ _
-        (λ r k. rw (same-use code r k, contains-next (useCode context r) h)
-        (one-more (has noUseSet r) (containsUse (take i useSet) (useCode context r)) (eqb (useCode context r) code) (free r))))
+-- ---- What they keep from v
 
-    with-all :
-        length useSet ≤ i
-        → withFirst noUseSet useSet i ≡ collected (λ r. has noUseSet r || (containsUse useSet (useCode context r) && free r))
-    unfolding withFirst
-    with-all h = rw (take-all i useSet h)
+-- the members of s that are none of t
+unfoldable pub less : ℕ → ℕ → ℕ
+less s t = collected (λ r. has s r && not (has t r))
 
--- ---- The uses of u
+pub less-masked : (s t : ℕ) → Set s → Set t → bitAnd s (2 ^ members - 1 - t) ≡ less s t
+unfolding less
+less-masked s t hs ht =
+    collected-is _ _ (omega (arith, and-le-l s (2 ^ members - 1 - t)))
+    (λ r h. has-and s (2 ^ members - 1 - t) r ∙ ap (λ (b : Bool). has s r && b) (has-complement members t r (omega arith) ht))
+
+module _ (noUseSet last own u v : ℕ) where
+  -- u ≠ v has the uses `last`, v those of `own`
+  unfoldable pub withLast : ℕ
+  withLast = collected (λ r. has noUseSet r || (not (eqb u v) && has last r && (ltb u v || not (has own r))))
+
+  module _ (s : Set noUseSet) where
+    pub with-own : u ≡ v → noUseSet ≡ withLast
+    unfolding withLast
+    with-own e = nothing-more noUseSet _ s (λ r. simp (eq-eqb u v e))
+
+    pub with-earlier : Set last → (u ≡ v → ⊥) → u < v → union noUseSet last ≡ withLast
+    unfolding withLast
+    with-earlier l other h =
+        collected-is _ _ (set-union noUseSet last s l)
+        (λ r k. has-union noUseSet last r ∙ simp (ne-eqb u v other, lt-ltb u v h, and-true))
+
+    pub with-later : (u ≡ v → ⊥) → v ≤ u → union noUseSet (less last own) ≡ withLast
+    unfolding withLast less
+    with-later other h =
+        collected-is _ _ (set-union noUseSet (less last own) s (set-collected _))
+        (λ r k. has-union noUseSet (less last own) r ∙ ap (λ (b : Bool). has noUseSet r || b) (has-collected _ r k) ∙ simp (ne-eqb u v other, le-ltb u v h))
 
 module _ (useSets useCounts chunks : List ℕ) (v : ℕ) where
-  unfoldable pub withUses : ℕ → ℕ → ℕ
-  withUses noUseSet u = collected (λ r. has noUseSet r || restricts useSets useCounts chunks u v r)
+  abbrev pub isLast : ℕ → ℕ → Bool
+  isLast u r = isTemporary chunks u && containsUse (usesOf useSets useCounts u) (useCode (lastContext (chunkOf chunks v)) r)
 
-  pub with-own : (noUseSet u : ℕ) → Set noUseSet → u ≡ v → noUseSet ≡ withUses noUseSet u
-  unfolding withUses restricts
-  with-own noUseSet u s e = nothing-more noUseSet _ s (λ r. simp (eq-eqb u v e, and-false))
+  -- the registers that u uses in the last goal of v's chunk; none where u is no temporary
+  unfoldable pub lastUses : ℕ → ℕ
+  lastUses u = collected (isLast u)
 
-  pub with-permanent : (noUseSet u : ℕ) → Set noUseSet → isTemporary chunks u ≡ false → noUseSet ≡ withUses noUseSet u
-  unfolding withUses restricts
-  with-permanent noUseSet u s e = nothing-more noUseSet _ s (λ r. simp e)
+  pub last-permanent : (u : ℕ) → isTemporary chunks u ≡ false → emptySet ≡ lastUses u
+  unfolding lastUses
+  last-permanent u e = collected-is emptySet _ set-empty (λ r h. has-empty r ∙ simp e)
 
-  pub with-temporary :
-      (noUseSet u chunk : ℕ) (useSet : List ℕ) (i : ℕ) → chunk ≡ chunkOf chunks v → useSet ≡ usesOf useSets useCounts u
-      → (u ≡ v → ⊥) → isTemporary chunks u ≡ true → length useSet ≤ i
-      → withFirst (lastContext chunk) (beforeOrFree useSets useCounts u v) noUseSet useSet i ≡ withUses noUseSet u
-  unfolding withUses restricts
-  with-temporary noUseSet u chunk useSet i c s other e h =
-      with-all (lastContext chunk) (beforeOrFree useSets useCounts u v) noUseSet useSet i h
-      ∙ ap₂ (λ (k : ℕ) (l : List ℕ). collected (λ r. has noUseSet r || (containsUse l (useCode (lastContext k) r) && beforeOrFree useSets useCounts u v r))) c s
-      ∙ simp (ne-eqb u v other, e)
+  pub last-temporary :
+      (u chunk : ℕ) (useSet : List ℕ) (i : ℕ) → chunk ≡ chunkOf chunks v → useSet ≡ usesOf useSets useCounts u
+      → isTemporary chunks u ≡ true → length useSet ≤ i
+      → givenFirst (isIn (lastContext chunk)) useSet i ≡ lastUses u
+  unfolding lastUses containsUse
+  last-temporary u chunk useSet i c s e h =
+      given-all (isIn (lastContext chunk)) useSet i h
+      ∙ ap₂ (λ (k : ℕ) (l : List ℕ). collected (λ r. containsUse l (useCode (lastContext k) r))) c s
+      ∙ collected-same _ (isLast u) (λ r k. simp e)
 
   -- ---- The uses of the variables below n
 
@@ -130,12 +127,31 @@ module _ (useSets useCounts chunks : List ℕ) (v : ℕ) where
   unfolding withBelow any below
   below-none noUseSet s = nothing-more noUseSet _ s (λ r. refl)
 
-  pub below-next : (noUseSet n before : ℕ) → before ≡ withBelow noUseSet n → withUses before n ≡ withBelow noUseSet (suc n)
-  unfolding withUses withBelow
+  turned : (a b c d : Bool) → (b && (a && c) && d) ≡ (a && b && c && d)
+  turned true true c d = refl
+  turned true false c d = refl
+  turned false true c d = refl
+  turned false false c d = refl
+
+  abbrev own : ℕ
+  own = collected (usesRegister (usesOf useSets useCounts v))
+
+  restricted :
+      (u r : ℕ) → r ≤ registers
+      → (not (eqb u v) && has (lastUses u) r && (ltb u v || not (has own r))) ≡ restricts useSets useCounts chunks u v r
+  unfolding lastUses restricts beforeOrFree
+  restricted u r h =
+      rw (has-collected (isLast u) r h, has-collected (usesRegister (usesOf useSets useCounts v)) r h)
+      (turned (isTemporary chunks u) (not (eqb u v)) _ _)
+
+  pub below-next :
+      (noUseSet n before : ℕ) → before ≡ withBelow noUseSet n
+      → withLast before (lastUses n) own n v ≡ withBelow noUseSet (suc n)
+  unfolding withLast withBelow
   below-next noUseSet n before e =
       let others : ℕ → Bool = λ r. any (λ u. restricts useSets useCounts chunks u v r) (below n) in
       collected-same _ _
-      (λ r h. rw (ap (λ (s : ℕ). has s r) e ∙ has-collected (λ r. has noUseSet r || others r) r h, any-below-next (λ u. restricts useSets useCounts chunks u v r) n)
+      (λ r h. rw (ap (λ (s : ℕ). has s r) e ∙ has-collected (λ r. has noUseSet r || others r) r h, restricted n r h, any-below-next (λ u. restricts useSets useCounts chunks u v r) n)
       (or-assoc (has noUseSet r) (others r) (restricts useSets useCounts chunks n v r)))
 
   pub below-all :

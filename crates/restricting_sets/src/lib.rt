@@ -1,8 +1,8 @@
 // The restricting sets of all temporaries: which registers the uses of others keep from each, and its conflict set.
 ghost use mathlib.Core.Path.{_≡_};
 ghost use Rattle.temp_var_data.specs.Uses.{lastContext};
-ghost use Rattle.restricting_sets.specs.Restricting.{chunkOf, isTemporary, beforeOrFree, noUseOf, conflictAt, Populated};
-ghost use Rattle.restricting_sets.specs.StepLaws.{withUse, withUses};
+ghost use Rattle.restricting_sets.specs.Restricting.{chunkOf, isTemporary, noUseOf, conflictAt, Populated};
+ghost use Rattle.restricting_sets.specs.StepLaws.{withUse, lastUses, less, withLast};
 use bit_set::BitSet;
 use sizes::LAST_CHUNK;
 use sizes::VARIABLES;
@@ -37,65 +37,54 @@ fn is_temporary(chunks: &Chunks, v: u32) -> bool
     sizes::is_chunk(chunk_of(chunks, v))
 }
 
-// Whether `u` comes before `v`, or `v` does not use `reg`: the Rust puts all use sets aside and each back after its turn,
-// so that at the turn of `u` nothing is seen of what a later `v` uses.
-fn before_or_free(use_sets: &UseSets, use_counts: &UseCounts, u: u32, v: u32, reg: u32) -> bool
-    ensures { λ r. ⌜ r ≡ beforeOrFree (now («use_sets» .entry)) (now («use_counts» .entry)) u v reg ⌝ }
-{
-    if u < v {
-        return true;
-    }
-    !temp_var_data::uses_reg(use_sets, use_counts, v, reg)
-}
-
-// The no-use set of `v`, a temporary of the chunk `chunk`, after one use of `u`.
-fn with_use(
-    no_use_set: BitSet,
-    use_sets: &UseSets,
-    use_counts: &UseCounts,
-    u: u32,
-    v: u32,
-    chunk: u32,
-    code: u32,
-) -> BitSet
-    ensures { λ r. ⌜ r ≡ withUse (lastContext chunk) (beforeOrFree (now («use_sets» .entry)) (now («use_counts» .entry)) u v) «no_use_set» code ⌝ }
+// `registers` with that of a use, if it is one in the last goal of `chunk`.
+fn with_use(registers: BitSet, chunk: u32, code: u32) -> BitSet
+    ensures { λ r. ⌜ r ≡ withUse (lastContext chunk) registers code ⌝ }
 {
     let reg = temp_var_data::register_of(code);
     if temp_var_data::last_use(chunk, reg) != code {
-        return no_use_set;
+        return registers;
     }
-    if !before_or_free(use_sets, use_counts, u, v, reg) {
-        return no_use_set;
-    }
-    bit_set::insert(no_use_set, reg)
+    bit_set::insert(registers, reg)
 }
 
-// The no-use set of `v` after the uses of `u`.
-fn with_uses(
-    no_use_set: BitSet,
-    use_sets: &UseSets,
-    use_counts: &UseCounts,
-    chunks: &Chunks,
-    u: u32,
-    v: u32,
-) -> BitSet
-    ensures { λ r. ⌜ r ≡ withUses (now («use_sets» .entry)) (now («use_counts» .entry)) (now (chunks .entry)) v «no_use_set» u ⌝ }
+// The registers that `u` uses in the last goal of the chunk of `v`; none where `u` is no temporary.
+fn last_uses(use_sets: &UseSets, use_counts: &UseCounts, chunks: &Chunks, u: u32, v: u32) -> BitSet
+    ensures { λ r. ⌜ r ≡ lastUses (now («use_sets» .entry)) (now («use_counts» .entry)) (now (chunks .entry)) v u ⌝ }
+{
+    if !is_temporary(chunks, u) {
+        return bit_set::empty();
+    }
+    let chunk = chunk_of(chunks, v);
+    let use_set = temp_var_data::uses_of(use_sets, use_counts, u);
+    let mut registers = bit_set::empty();
+    let mut i = 0;
+    while i < use_set.len() {
+        registers = with_use(registers, chunk, use_set[i]);
+        i += 1;
+    }
+    registers
+}
+
+// The members of `s` that are none of `t`.
+fn without(s: BitSet, t: BitSet) -> BitSet
+    ensures { λ r. ⌜ r ≡ less s t ⌝ }
+{
+    s & !t
+}
+
+// The no-use set of `v`, which uses the registers `own`, after those that `u` uses in the last goal. The Rust puts all use
+// sets aside and each back after its turn, so that at the turn of `u` nothing is seen of what a later `v` uses.
+fn with_uses(no_use_set: BitSet, last: BitSet, own: BitSet, u: u32, v: u32) -> BitSet
+    ensures { λ r. ⌜ r ≡ withLast «no_use_set» last own u v ⌝ }
 {
     if u == v {
         return no_use_set;
     }
-    if !is_temporary(chunks, u) {
-        return no_use_set;
+    if u < v {
+        return bit_set::union_with(no_use_set, last);
     }
-    let chunk = chunk_of(chunks, v);
-    let use_set = temp_var_data::uses_of(use_sets, use_counts, u);
-    let mut set = no_use_set;
-    let mut i = 0;
-    while i < use_set.len() {
-        set = with_use(set, use_sets, use_counts, u, v, chunk, use_set[i]);
-        i += 1;
-    }
-    set
+    bit_set::union_with(no_use_set, without(last, own))
 }
 
 // The no-use set of `v` after the uses of all; what it was where `v` is no temporary.
@@ -111,10 +100,12 @@ fn no_use_of(
     if !is_temporary(chunks, v) {
         return no_use_set;
     }
+    let own = temp_var_data::used_registers(use_sets, use_counts, v);
     let mut set = no_use_set;
     let mut u: u32 = 0;
     while u < VARIABLES as u32 {
-        set = with_uses(set, use_sets, use_counts, chunks, u, v);
+        let last = last_uses(use_sets, use_counts, chunks, u, v);
+        set = with_uses(set, last, own, u, v);
         u += 1;
     }
     set

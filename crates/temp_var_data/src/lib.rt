@@ -3,6 +3,7 @@
 ghost use mathlib.Core.Path.{_≡_};
 ghost use Prim.Native.Nat.{min};
 ghost use Rattle.sizes.specs.Sizes.{uses};
+ghost use Rattle.bit_set.specs.Collected.{collected};
 ghost use Rattle.temp_var_data.specs.Uses.{headContext, midContext, lastContext, useCode, contextOf, registerOf};
 ghost use Rattle.temp_var_data.specs.Uses.{usesOf, usesRegister, containsUse, upTo, conflictOf, UseAdded};
 use bit_set::BitSet;
@@ -82,19 +83,18 @@ pub fn uses_of<'a>(use_sets: &'a UseSets, use_counts: &UseCounts, v: u32) -> &'a
     &entries[first..first + counted(counts[row])]
 }
 
-// Whether `v` uses the register `reg`.
-pub fn uses_reg(use_sets: &UseSets, use_counts: &UseCounts, v: u32, reg: u32) -> bool
-    ensures { λ r. ⌜ r ≡ usesRegister (usesOf (now («use_sets» .entry)) (now («use_counts» .entry)) v) reg ⌝ }
+// The registers that `v` uses.
+pub fn used_registers(use_sets: &UseSets, use_counts: &UseCounts, v: u32) -> BitSet
+    ensures { λ r. ⌜ r ≡ collected (usesRegister (usesOf (now («use_sets» .entry)) (now («use_counts» .entry)) v)) ⌝ }
 {
     let use_set = uses_of(use_sets, use_counts, v);
+    let mut registers = bit_set::empty();
     let mut i = 0;
     while i < use_set.len() {
-        if reg == register_of(use_set[i]) {
-            return true;
-        }
+        registers = bit_set::insert(registers, register_of(use_set[i]));
         i += 1;
     }
-    false
+    registers
 }
 
 // Whether the use `code` stands in the use set of `v`.

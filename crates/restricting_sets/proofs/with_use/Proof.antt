@@ -1,8 +1,7 @@
 -- `restricting_sets::with_use`: each way of the code is a way of the definition. Assumes nothing.
 use mathlib.Core.Path.{sym, _∙_}
-use borrow.Author.Tests.{not-true, not-false}
 use borrow.Author.Needs.{needs}
-use Rattle.restricting_sets.specs.StepLaws.{use-elsewhere, use-allowed, use-inserted}
+use Rattle.restricting_sets.specs.StepLaws.{use-elsewhere, use-inserted}
 use Rattle.restricting_sets.proofs.with_use.Statement.{statement}
 use Rattle.restricting_sets.proofs.with_use.Tie as tie
 
@@ -13,25 +12,16 @@ last-use-requires : tie.Need-last-use-requires
 last-use-requires c κs = search needs
 
 returns : tie.Need-returns
-returns c = use-elsewhere _ _ _ _ _ (c .before .before .register-of .ensures) (λ e. c .if1 .taken (c .before .last-use .ensures ∙ e))
-
-before-or-free-requires : tie.Need-before-or-free-requires
-before-or-free-requires c κs = search needs
-
-returns-2 : tie.Need-returns-2
-returns-2 c =
-    use-allowed _ _ _ _ _ (c .before .before .before .before .register-of .ensures)
-    (sym (c .before .before-or-free .ensures) ∙ not-true _ (c .if2 .taken))
+returns c = use-elsewhere _ _ _ _ (c .before .before .register-of .ensures) (λ e. c .if1 .taken (c .before .last-use .ensures ∙ e))
 
 insert-requires : tie.Need-insert-requires
 insert-requires c κs = search needs
 
-returns-3 : tie.Need-returns-3
-returns-3 c =
+returns-2 : tie.Need-returns-2
+returns-2 c =
     c .insert .ensures
-    ∙ use-inserted _ _ _ _ _ (c .before .before .before .before .before .register-of .ensures)
-    (sym (c .before .before .before .before .last-use .ensures) ∙ c .before .before .before .if1 .left)
-    (sym (c .before .before .before-or-free .ensures) ∙ not-false _ (c .before .if2 .left))
+    ∙ use-inserted _ _ _ _ (c .before .before .before .register-of .ensures)
+    (sym (c .before .before .last-use .ensures) ∙ c .before .if1 .left)
 
 pub with-use-spec : {M : Type 1} → statement M
 with-use-spec =
@@ -40,7 +30,5 @@ with-use-spec =
     register-of-requires
     last-use-requires
     returns
-    before-or-free-requires
-    returns-2
     insert-requires
-    returns-3)
+    returns-2)
