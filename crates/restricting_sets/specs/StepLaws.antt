@@ -44,13 +44,17 @@ module _ (context : ℕ) where
     unfolding withUse
     use-inserted same = rw (← e) (simp (eq-eqb _ _ same))
 
+  register-known : (code r : ℕ) → r ≤ registers → useCode context r ≡ code → r ≡ registerOf code
+  register-known code r h same = sym (register-of-use context r (omega arith)) ∙ ap registerOf same
+
   -- a use is one of r in the context if its register is r and its context is the context
   same-use : (code r : ℕ) → r ≤ registers → isIn r code ≡ (isIn (registerOf code) code && eqb r (registerOf code))
   same-use code r h =
       let register : ℕ = registerOf code in
       elim (eqb r register) as (λ t. eqb r register ≡ t → isIn r code ≡ (isIn register code && t)) [
         | true ↦ λ e. ap (λ (q : ℕ). isIn q code) (eqb-true r register e) ∙ sym (and-true (isIn register code))
-        | false ↦ λ e. ne-eqb (useCode context r) code (λ same. eqb-false r register e (sym (register-of-use context r (omega arith)) ∙ ap registerOf same)) ∙ sym (and-false (isIn register code))
+        | false ↦ λ e. (let other = ne-eqb _ code (λ same. eqb-false r register e (register-known code r h same)) in
+            other ∙ sym (and-false (isIn register code)))
       ]
       refl
 
@@ -61,6 +65,15 @@ module _ (context : ℕ) where
   with-next useSet i before e h =
       let code : ℕ = getD useSet i 0 in
       rw e (given-next isIn useSet i (registerOf code) (isIn (registerOf code) code) h (same-use code))
+
+-- the registers that a use set has in the last goal of a chunk
+unfoldable pub lastUses : List ℕ → ℕ → ℕ
+lastUses useSet chunk = collected (λ r. containsUse useSet (useCode (lastContext chunk) r))
+
+pub with-all :
+    (useSet : List ℕ) (chunk i : ℕ) → length useSet ≤ i → givenFirst (isIn (lastContext chunk)) useSet i ≡ lastUses useSet chunk
+unfolding lastUses containsUse
+with-all useSet chunk i h = given-all (isIn (lastContext chunk)) useSet i h
 
 -- ---- What they keep from v
 
@@ -94,30 +107,11 @@ module _ (noUseSet last own u v : ℕ) where
     unfolding withLast less
     with-later other h =
         collected-is _ _ (set-union noUseSet (less last own) s (set-collected _))
-        (λ r k. has-union noUseSet (less last own) r ∙ ap (λ (b : Bool). has noUseSet r || b) (has-collected _ r k) ∙ simp (ne-eqb u v other, le-ltb u v h))
+        (λ r k. has-union noUseSet (less last own) r
+        ∙ ap (λ (b : Bool). has noUseSet r || b) (has-collected _ r k)
+        ∙ simp (ne-eqb u v other, le-ltb u v h))
 
 module _ (useSets useCounts chunks : List ℕ) (v : ℕ) where
-  abbrev pub isLast : ℕ → ℕ → Bool
-  isLast u r = isTemporary chunks u && containsUse (usesOf useSets useCounts u) (useCode (lastContext (chunkOf chunks v)) r)
-
-  -- the registers that u uses in the last goal of v's chunk; none where u is no temporary
-  unfoldable pub lastUses : ℕ → ℕ
-  lastUses u = collected (isLast u)
-
-  pub last-permanent : (u : ℕ) → isTemporary chunks u ≡ false → emptySet ≡ lastUses u
-  unfolding lastUses
-  last-permanent u e = collected-is emptySet _ set-empty (λ r h. has-empty r ∙ simp e)
-
-  pub last-temporary :
-      (u chunk : ℕ) (useSet : List ℕ) (i : ℕ) → chunk ≡ chunkOf chunks v → useSet ≡ usesOf useSets useCounts u
-      → isTemporary chunks u ≡ true → length useSet ≤ i
-      → givenFirst (isIn (lastContext chunk)) useSet i ≡ lastUses u
-  unfolding lastUses containsUse
-  last-temporary u chunk useSet i c s e h =
-      given-all (isIn (lastContext chunk)) useSet i h
-      ∙ ap₂ (λ (k : ℕ) (l : List ℕ). collected (λ r. containsUse l (useCode (lastContext k) r))) c s
-      ∙ collected-same _ (isLast u) (λ r k. simp e)
-
   -- ---- The uses of the variables below n
 
   unfoldable pub withBelow : ℕ → ℕ → ℕ
@@ -127,32 +121,45 @@ module _ (useSets useCounts chunks : List ℕ) (v : ℕ) where
   unfolding withBelow any below
   below-none noUseSet s = nothing-more noUseSet _ s (λ r. refl)
 
-  turned : (a b c d : Bool) → (b && (a && c) && d) ≡ (a && b && c && d)
-  turned true true c d = refl
-  turned true false c d = refl
-  turned false true c d = refl
-  turned false false c d = refl
+  abbrev last : ℕ → ℕ
+  last u = lastUses (usesOf useSets useCounts u) (chunkOf chunks v)
+
+  has-last :
+      (u r : ℕ) → r ≤ registers
+      → has (last u) r ≡ containsUse (usesOf useSets useCounts u) (useCode (lastContext (chunkOf chunks v)) r)
+  unfolding lastUses
+  has-last u r h = has-collected _ r h
 
   abbrev own : ℕ
   own = collected (usesRegister (usesOf useSets useCounts v))
 
-  restricted :
-      (u r : ℕ) → r ≤ registers
-      → (not (eqb u v) && has (lastUses u) r && (ltb u v || not (has own r))) ≡ restricts useSets useCounts chunks u v r
-  unfolding lastUses restricts beforeOrFree
-  restricted u r h =
-      rw (has-collected (isLast u) r h, has-collected (usesRegister (usesOf useSets useCounts v)) r h)
-      (turned (isTemporary chunks u) (not (eqb u v)) _ _)
+  module _ (noUseSet n before : ℕ) (e : before ≡ withBelow noUseSet n) where
+    abbrev others : ℕ → Bool
+    others r = any (λ u. restricts useSets useCounts chunks u v r) (below n)
 
-  pub below-next :
-      (noUseSet n before : ℕ) → before ≡ withBelow noUseSet n
-      → withLast before (lastUses n) own n v ≡ withBelow noUseSet (suc n)
-  unfolding withLast withBelow
-  below-next noUseSet n before e =
-      let others : ℕ → Bool = λ r. any (λ u. restricts useSets useCounts chunks u v r) (below n) in
-      collected-same _ _
-      (λ r h. rw (ap (λ (s : ℕ). has s r) e ∙ has-collected (λ r. has noUseSet r || others r) r h, restricted n r h, any-below-next (λ u. restricts useSets useCounts chunks u v r) n)
-      (or-assoc (has noUseSet r) (others r) (restricts useSets useCounts chunks n v r)))
+    has-before : (r : ℕ) → r ≤ registers → has before r ≡ (has noUseSet r || others r)
+    unfolding withBelow
+    has-before r h = ap (λ (s : ℕ). has s r) e ∙ has-collected _ r h
+
+    one-more :
+        (r : ℕ)
+        → (has noUseSet r || any (λ u. restricts useSets useCounts chunks u v r) (below (suc n)))
+        ≡ (has noUseSet r || others r || restricts useSets useCounts chunks n v r)
+    one-more r =
+        rw (any-below-next (λ u. restricts useSets useCounts chunks u v r) n)
+        (sym (or-assoc (has noUseSet r) (others r) (restricts useSets useCounts chunks n v r)))
+
+    pub below-permanent : isTemporary chunks n ≡ false → before ≡ withBelow noUseSet (suc n)
+    unfolding withBelow restricts
+    below-permanent permanent =
+        e ∙ collected-same _ _ (λ r h. sym (one-more r ∙ simp (permanent, or-false)))
+
+    pub below-temporary : isTemporary chunks n ≡ true → withLast before (last n) own n v ≡ withBelow noUseSet (suc n)
+    unfolding withLast withBelow restricts beforeOrFree
+    below-temporary temporary =
+        collected-same _ _
+        (λ r h. rw (has-before r h, has-last n r h, has-collected (usesRegister (usesOf useSets useCounts v)) r h)
+        (sym (one-more r ∙ simp temporary)))
 
   pub below-all :
       (noUseSet n : ℕ) → n ≡ variables → isTemporary chunks v ≡ true

@@ -1,6 +1,6 @@
 // The restricting sets of all temporaries: which registers the uses of others keep from each, and its conflict set.
 ghost use mathlib.Core.Path.{_≡_};
-ghost use Rattle.temp_var_data.specs.Uses.{lastContext};
+ghost use Rattle.temp_var_data.specs.Uses.{lastContext, usesOf};
 ghost use Rattle.restricting_sets.specs.Restricting.{chunkOf, isTemporary, noUseOf, conflictAt, Populated};
 ghost use Rattle.restricting_sets.specs.StepLaws.{withUse, lastUses, less, withLast};
 use bit_set::BitSet;
@@ -48,14 +48,10 @@ fn with_use(registers: BitSet, chunk: u32, code: u32) -> BitSet
     bit_set::insert(registers, reg)
 }
 
-// The registers that `u` uses in the last goal of the chunk of `v`; none where `u` is no temporary.
-fn last_uses(use_sets: &UseSets, use_counts: &UseCounts, chunks: &Chunks, u: u32, v: u32) -> BitSet
-    ensures { λ r. ⌜ r ≡ lastUses (now («use_sets» .entry)) (now («use_counts» .entry)) (now (chunks .entry)) v u ⌝ }
+// The registers that `u` uses in the last goal of `chunk`.
+fn last_uses(use_sets: &UseSets, use_counts: &UseCounts, u: u32, chunk: u32) -> BitSet
+    ensures { λ r. ⌜ r ≡ lastUses (usesOf (now («use_sets» .entry)) (now («use_counts» .entry)) u) chunk ⌝ }
 {
-    if !is_temporary(chunks, u) {
-        return bit_set::empty();
-    }
-    let chunk = chunk_of(chunks, v);
     let use_set = temp_var_data::uses_of(use_sets, use_counts, u);
     let mut registers = bit_set::empty();
     let mut i = 0;
@@ -104,8 +100,10 @@ fn no_use_of(
     let mut set = no_use_set;
     let mut u: u32 = 0;
     while u < VARIABLES as u32 {
-        let last = last_uses(use_sets, use_counts, chunks, u, v);
-        set = with_uses(set, last, own, u, v);
+        if is_temporary(chunks, u) {
+            let last = last_uses(use_sets, use_counts, u, chunk_of(chunks, v));
+            set = with_uses(set, last, own, u, v);
+        }
         u += 1;
     }
     set

@@ -1,45 +1,30 @@
 -- `restricting_sets::last_uses`: the registers of the uses passed are there. The measure is what is left of the use set.
 -- Assumes nothing.
 use Prim.Native.Nat.{_-_}
-use mathlib.Core.Path.{_≡_, sym, _∙_}
+use mathlib.Core.Path.{_≡_, ap, _∙_}
 use native.Mathlib.Numerals.{add-one}
 use lib.ListN.{length}
-use borrow.Author.Tests.{not-true, not-false}
 use borrow.Author.Needs.{needs}
 use Rattle.temp_var_data.specs.Uses.{lastContext}
 use Rattle.temp_var_data.specs.GivenLaws.{givenFirst, given-none}
-use Rattle.restricting_sets.specs.StepLaws.{isIn, with-next, last-permanent, last-temporary}
+use Rattle.restricting_sets.specs.StepLaws.{isIn, with-next, lastUses, with-all}
 use Rattle.restricting_sets.proofs.last_uses.Statement.{statement}
 use Rattle.restricting_sets.proofs.last_uses.Tie as tie
 
 abbrev Inv-loop : tie.InvT-loop
-Inv-loop use-sets use-counts chunks u v chunk use-set registers₀ i₀ registers i = registers ≡ givenFirst (isIn (lastContext chunk)) use-set i
+Inv-loop use-sets use-counts u chunk use-set registers₀ i₀ registers i = registers ≡ givenFirst (isIn (lastContext chunk)) use-set i
 
 abbrev μ-loop : tie.MeasureT-loop
-μ-loop use-sets use-counts chunks u v chunk use-set registers₀ i₀ registers i = length use-set - i
-
-is-temporary-requires : tie.Need-is-temporary-requires Inv-loop μ-loop
-is-temporary-requires c κs = search needs
-
-empty-requires : tie.Need-empty-requires Inv-loop μ-loop
-empty-requires c κs = search needs
-
-returns : tie.Need-returns Inv-loop μ-loop
-returns c =
-    c .empty .ensures
-    ∙ last-permanent _ _ _ _ _ (sym (c .before .before .is-temporary .ensures) ∙ not-true _ (c .before .if1 .taken))
-
-chunk-of-requires : tie.Need-chunk-of-requires Inv-loop μ-loop
-chunk-of-requires c κs = search needs
+μ-loop use-sets use-counts u chunk use-set registers₀ i₀ registers i = length use-set - i
 
 uses-of-requires : tie.Need-uses-of-requires Inv-loop μ-loop
 uses-of-requires c κs = search needs
 
-empty-requires-2 : tie.Need-empty-requires-2 Inv-loop μ-loop
-empty-requires-2 c κs = search needs
+empty-requires : tie.Need-empty-requires Inv-loop μ-loop
+empty-requires c κs = search needs
 
 loop-holds : tie.Need-loop-holds Inv-loop μ-loop
-loop-holds c = c .empty2 .ensures ∙ given-none _ _
+loop-holds c = c .empty .ensures ∙ given-none _ _
 
 mul-with-use : tie.Need-mul-with-use Inv-loop μ-loop
 mul-with-use c = search needs
@@ -62,14 +47,13 @@ loop-again c =
     rw (add-one (l .i))
     (c .with-use .ensures ∙ with-next _ _ (l .i) (l .registers) (l .inv) (c .before .before .loop-test .taken))
 
-returns-2 : tie.Need-returns-2 Inv-loop μ-loop
-returns-2 c =
+returns : tie.Need-returns Inv-loop μ-loop
+returns c =
     let l = c .before .loop in
     let start = c .before .before .before in
     l .inv
-    ∙ last-temporary _ _ _ _ _ _ _ (l .i) (start .before .chunk-of .ensures) (start .uses-of .ensures)
-    (sym (start .before .before .before .is-temporary .ensures) ∙ not-false _ (start .before .before .if1 .left))
-    (c .loop-test .left)
+    ∙ with-all _ _ (l .i) (c .loop-test .left)
+    ∙ ap (λ useSet. lastUses useSet (start .before .args .chunk)) (start .uses-of .ensures)
 
 pub last-uses-spec : {M : Type 1} → statement M
 last-uses-spec =
@@ -77,12 +61,8 @@ last-uses-spec =
     (tie.spec
     Inv-loop
     μ-loop
-    is-temporary-requires
-    empty-requires
-    returns
-    chunk-of-requires
     uses-of-requires
-    empty-requires-2
+    empty-requires
     loop-holds
     mul-with-use
     shared-slice-read-with-use
@@ -90,4 +70,4 @@ last-uses-spec =
     add-i
     loop-less
     loop-again
-    returns-2)
+    returns)
