@@ -8,11 +8,13 @@ SMALL_LINES = range(10, 41)
 SEED = 5
 CLAUSES = 12_000  # generated, to have enough that are small and accepted
 VARIABLES = 64
+USES = 16  # of a variable
+BRANCHES = 16  # open at a time
 MOST = 65_535  # the highest count of occurrences
 STEPS = 256  # of a check sheet
 INSTRUCTIONS = 4  # of a step
 REGISTERS = 63
-DEAR = 100  # lines of the dearest event: a full sheet of them takes seconds
+DEAR = 100  # lines of the dearest event: the Rust takes seconds for a full sheet of them
 RECORDS = ("temp", "perm")
 
 
@@ -95,9 +97,18 @@ def numbered(form, numbers):
     return [form.format(number) for number in numbers]
 
 
-def uses(first, count):
-    """The uses of so many registers."""
-    return ",".join(f"l1:{(first + 3 * i) % REGISTERS + 1}" for i in range(count))
+def uses(first, contexts):
+    """A use in each context, of registers from one on."""
+    return ",".join(f"{context}:{(first + 3 * i) % REGISTERS + 1}" for i, context in enumerate(contexts))
+
+
+def restricting(chunks, contexts):
+    """As many temporaries as there may be, of the chunks in turn, with as many uses, in the contexts in turn."""
+    records = []
+    for v in range(VARIABLES):
+        turned = [contexts[(v + i) % len(contexts)] for i in range(USES)]
+        records.append(f"temp {chunks[v % len(chunks)]} {MOST} {uses(v, turned)}")
+    return records
 
 
 def marks():
@@ -128,7 +139,7 @@ def records():
     """Sheets with as many records as there may be, by name, and one with nothing."""
     return {
         "empty": b"",
-        "temp": text(f"temp l1 {MOST} {uses(v, 16)}" for v in range(VARIABLES)),
+        "temp": text(restricting(["l1"], ["l1"])),
         "perm": text([f"perm {MOST}"] * VARIABLES),
     }
 
@@ -137,8 +148,8 @@ def others():
     """Full sheets of events that are no marks, by name; but few lines of the dearest event."""
     several = " ".join(str(v) for v in range(REGISTERS))
     return {
-        "sets, 4 variables": filled([f"temp l1 {MOST} {uses(0, 3)}"] * 4, ["sets"]),
-        "sets, 64 variables": text([f"temp l1 {MOST} {uses(v, 16)}" for v in range(VARIABLES)] + ["sets"] * DEAR),
+        "sets, 4 variables": filled([f"temp l1 {MOST} {uses(0, ['l1'] * 3)}"] * 4, ["sets"]),
+        "sets, 64 variables": text(restricting(["l1"], ["l1"]) + ["sets"] * DEAR),
         "head, 3 arguments": filled([f"temp l1 {MOST} -"] * 2, ["head 0 - 1"]),
         "head, 63 arguments": filled([f"temp l1 {MOST} -"] * REGISTERS, ["head " + several]),
         "args": filled([], ["args 7"]),
@@ -184,3 +195,51 @@ def goal_check(steps=STEPS, right=True):
     if not right:
         lines[-1] = lines[-1].replace("y1", "y2")
     return text([*lines, "call"])
+
+
+def checks():
+    """Full check sheets by name."""
+    made = {"equalities in the head": head_check, "arguments of goals": goal_check}
+    verdicts = {"accepted": True, "rejected": False}
+    return {f"{name}, {verdict}": make(right=verdicts[verdict]) for name, make in made.items() for verdict in verdicts}
+
+
+# ---- Sheets among which the dearest is looked for
+
+
+def dear_events():
+    """Full sheets by name, whose lines go through tables that are as full as they may be."""
+    every, half, third = range(REGISTERS), range(30), range(21)
+    permanent, branches = [f"perm {MOST}"] * REGISTERS, ["open 4 2 3"] * BRANCHES
+    several, some = (" ".join(map(str, numbers)) for numbers in (every, half))
+    moved = ["args 0", "contents", f"head {some}", *numbered("var f s h {}", half), "args 30"]
+    chunks = numbered("l{}", range(VARIABLES))
+    return {
+        "sets, one chunk": filled(restricting(["l1"], ["l1"]), ["sets"]),
+        "sets, two chunks": filled(restricting(["l1", "l2"], ["l1", "l2"]), ["sets"]),
+        "sets, a chunk each": filled(restricting(chunks, chunks), ["sets"]),
+        "sets, all contexts": filled(restricting(["l1", "l2", "m1"], ["l1", "m1", "l2", "h", "m2"]), ["sets"]),
+        "var, evacuating": filled(restricting(["l1"], ["l1"]), [*moved, *numbered("var q s l1 {}", reversed(half))]),
+        "var, in 16 branches": filled([*permanent, *branches], numbered("var q d l1 {}", every)),
+        "take, in 16 branches": filled([*permanent, *branches], [*numbered("var q d l1 {}", third), *["take"] * len(third)]),
+        "close, of 16 branches": filled(permanent, [*branches, f"close {BRANCHES} {several}"]),
+        "arm, in 16 branches": filled(branches, ["arm 5 6"]),
+        "anon, registers full": filled([], [*["anon q d l1"] * 62, "contents", "args 0"]),
+        "nonvar, registers full": filled([], [*["nonvar q d l1 0"] * 62, "contents", "args 0"]),
+    }
+
+
+def dear_checks():
+    """Check sheets of as many steps and instructions as there may be, by name."""
+    def steps(first, others):
+        """A step of each k in turn, and its instructions."""
+        numbers = [step % REGISTERS + 1 for step in range(STEPS)]
+        return text(line.format(k=k, below=k % REGISTERS + 1) for k in numbers for line in (first, *others))
+
+    values = ["get_value x{k} {below}"] * (INSTRUCTIONS - 1)
+    return {
+        "equalities, rising": steps("h {k} 0", ["get_value x{k} {below}", *values]),
+        "equalities, a variable each": steps("h {k} {k}", ["get_value x{below} {k}", *values]),
+        "moves": steps("h {k} 0", ["get_variable y{below} {k}"] * INSTRUCTIONS),
+        "deep subterms": steps("hd {k}", ["unify_variable y{k}", *values]),
+    }
