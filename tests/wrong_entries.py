@@ -1,0 +1,300 @@
+"""The wrong answers of tests/wrong, held to the code as it stands: what `wrong_answers`, which has the prover refuse them, and
+`wrong_runs`, which runs them, share.
+
+A file of tests/wrong holds entries, parted by empty lines. Its lines: `fn` and the public function; `says:` and the wrong
+answer; `in:` and the private function that is changed, where it is another; `program:` and which of document 01's wrong
+programs it is, where it is one; then either `must-fail:` and the edit of the merge gate that is this wrong answer, or
+`old:` and `new:`, a text that occurs once in the function and what takes its place. A text may go on below its word, its
+lines as they stand in the code.
+
+On what the wrong answer shows is said by one of these: `sheet:`, one of document 01, as `6` or `10.3` for the third of its
+rows in the table of known_sheets; `event:` or `check:`, a sheet and behind `=>` its answer, with a space between fields,
+` / ` between lines and `*N` behind a line that stands N times; `state:`, the lines of an event sheet and behind `=>` a part
+of the state after them and its number; `main:`, the body of a program that shows a number, and `prints:`, the number.
+
+An edit of a definition or of a theorem cannot be run. tests/wrong_laws has an entry for each: `edit:` and its name,
+`false of:` and an instance of which the edited text is false, and where a sheet shows it the sheet, as above.
+"""
+import dataclasses
+import json
+import os
+import re
+import shutil
+
+ROOT = os.path.dirname(os.path.dirname(os.path.abspath(__file__)))
+CRATES = os.path.join(ROOT, "crates")
+ENTRIES = os.path.join(ROOT, "tests", "wrong")
+SHOWN = os.path.join(ROOT, "target", "wrong_runs")
+INSTANCES = os.path.join(ROOT, "tests", "wrong_laws")
+WANTED = 2
+FUNCTION = re.compile(r'^( *)(pub )?(?:extern "C" )?fn (\w+)')
+IMPLEMENTATION = re.compile(r"^impl (\w+) \{")
+ROWS = re.compile(r'(-- (\d+)\n)?    (?:∷ )?(?:(event|check)Sheet "(.*)" "(.*)"|noUse|conflict)')
+WORDS = {"fn": "function", "in": "place", "must-fail": "must_fail"}
+
+
+class Failure(Exception):
+    """What makes a run fail, said in words."""
+
+
+@dataclasses.dataclass
+class Run:
+    """A run on which a wrong answer shows: how the page calls it, the kind of program, what it is given, what is right."""
+
+    called: str
+    kind: str
+    given: str
+    due: str
+
+
+@dataclasses.dataclass
+class Answer:
+    """A wrong answer of a public function, as an edit of `place` or as an edit of the merge gate; what refused it, and how
+    it showed when it was run."""
+
+    crate: str
+    function: str = ""
+    says: str = ""
+    place: str = ""
+    program: str = ""
+    must_fail: str = ""
+    pairs: list = dataclasses.field(default_factory=list)
+    run: Run | None = None
+    refused: str = ""
+    shown: str = ""
+
+    def __str__(self):
+        return f"{self.crate}::{self.function}, {self.says}"
+
+    def told(self):
+        """The wrong answer in words, with the function that is changed."""
+        return self.says if self.place == self.function else f"{self.says} (in `{self.place}`)"
+
+    def key(self):
+        """What a wrong answer is remembered by: one that was changed has not been tried."""
+        return json.dumps([self.function, self.place, self.says, self.pairs])
+
+
+@dataclasses.dataclass
+class Function:
+    """Where a function stands in the lines of its file: from its first line up to, not with, `end`."""
+
+    name: str
+    public: bool
+    first: int
+    end: int
+
+
+# ---- The code
+
+
+def source(crate):
+    return os.path.join("crates", crate, "src", "lib.rt")
+
+
+def read(path):
+    with open(path, encoding="utf-8") as file:
+        return file.read()
+
+
+def write(path, text):
+    os.makedirs(os.path.dirname(path), exist_ok=True)
+    with open(path, "w", encoding="utf-8") as file:
+        file.write(text)
+
+
+def functions(text):
+    """The functions of a crate by their names; one of an implementation is named behind its type."""
+    lines, found, type_name = text.split("\n"), {}, ""
+    for at, line in enumerate(lines):
+        opened = IMPLEMENTATION.match(line)
+        type_name = opened.group(1) + "::" if opened else "" if line == "}" else type_name
+        match = FUNCTION.match(line)
+        if match:
+            name = type_name + match.group(3)
+            found[name] = Function(name, bool(match.group(2)), at, lines.index(match.group(1) + "}", at) + 1)
+    return found
+
+
+def constants(text):
+    """The constants of a crate by their names, as functions of one line."""
+    found = (re.match(r"(?:pub )?const (\w+)", line) for line in text.split("\n"))
+    return {match[1]: Function(match[1], False, at, at + 1) for at, match in enumerate(found) if match}
+
+
+def changed(text, answer):
+    """The crate's text with the wrong answer in it."""
+    function = functions(text).get(answer.place) or constants(text)[answer.place]
+    lines = text.split("\n")
+    body = "\n".join(lines[function.first : function.end])
+    for old, new in answer.pairs:
+        if body.count(old) != 1:
+            raise Failure(f"{answer}: not once in {answer.place}: {old}")
+        body = body.replace(old, new)
+    return "\n".join(lines[: function.first] + [body] + lines[function.end :])
+
+
+def crates():
+    """The crates with public functions, in the order of crates.txt."""
+    lines = read(os.path.join(ROOT, "crates.txt")).split("\n")
+    names = [line.split(":")[0] for line in lines if ":" in line and not line.startswith("#")]
+    codes = {name: os.path.join(ROOT, source(name)) for name in names}
+    return [
+        name
+        for name, code in codes.items()
+        if os.path.exists(code) and any(function.public for function in functions(read(code)).values())
+    ]
+
+
+# ---- The entries
+
+
+def fields(entry):
+    """The words of an entry with their texts; indented lines belong to the word above."""
+    found = []
+    for line in entry.split("\n"):
+        if line.startswith("    "):
+            found[-1][1].append(line)
+        elif line and not line.startswith("#"):
+            word, text = line.split(" ", 1) if line.startswith("fn ") else line.split(":", 1)
+            found.append((word, [text[1:] if word != "fn" else text] if text else []))
+    return [(word, "\n".join(texts)) for word, texts in found]
+
+
+def spelled(text):
+    """A text of the table, with its tabs and line feeds as they are."""
+    return text.replace("\\t", "\t").replace("\\n", "\n")
+
+
+def known_sheets():
+    """The rows of the table of known sheets: of each the kind, the sheet and the answer, by sheet and place in it."""
+    found, number, place = {}, "", 0
+    for _, opened, kind, sheet, answer in ROWS.findall(read(os.path.join(CRATES, "known_sheets", "specs", "Table.antt"))):
+        number, place = (opened, 1) if opened else (number, place + 1)
+        if kind:
+            row = kind, spelled(sheet), spelled(answer)
+            found[f"{number}.{place}"] = row
+            found.setdefault(number, row)
+    return found
+
+
+def lines_of(text):
+    """A sheet or an answer that is written in a line; `*N` behind a line repeats it."""
+    written = [re.fullmatch(r"(.*?)(?: \*(\d+))?", line) for line in " ".join(text.split()).split(" / ") if line]
+    return "".join((line[1].replace(" ", "\t") + "\n") * int(line[2] or 1) for line in written)
+
+
+def state_after(sheet, part):
+    """The body of a program that gives the lines of an event sheet to a fresh state, and shows a part of it."""
+    lines = [line.replace("\t", "\\t") for line in sheet.splitlines()]
+    calls = [f'    state = event_calls::call(state, b"{line}\\n", &mut out).state;' for line in lines]
+    begun = ["    let mut out = [0u8; 64];", "    let mut state = debray_allocator::fresh();"]
+    return "\n".join([*begun, *calls, f"    show(state.{part} as u32);"])
+
+
+def run_of(words):
+    """The run that the words of an entry tell of, or None."""
+    if "sheet" in words:
+        return Run(f"sheet {words['sheet']}", *known_sheets()[words["sheet"]])
+    if "main" in words:
+        return Run("a program", "main", words["main"], words["prints"] + "\n")
+    if "state" in words:
+        sheet, told = words["state"].split("=>")
+        part, number = told.split()
+        return Run(f"`{' '.join(sheet.split())}`, `{part}`", "main", state_after(lines_of(sheet), part), number + "\n")
+    for kind in ("event", "check"):
+        if kind in words:
+            sheet, due = words[kind].split("=>")
+            return Run(f"`{' '.join(sheet.split())}`", kind, lines_of(sheet), lines_of(due))
+    return None
+
+
+def answer_of(crate, entry):
+    answer, olds, words = Answer(crate), [], fields(entry)
+    for word, text in words:
+        if word == "old":
+            olds.append(text)
+        elif word == "new":
+            answer.pairs.append((olds.pop(), text))
+        elif word in ("says", "program", *WORDS):
+            setattr(answer, WORDS.get(word, word), text)
+        elif word not in ("sheet", "event", "check", "state", "main", "prints"):
+            raise Failure(f"{crate}: `{word}` is no word of an entry")
+    answer.place = answer.place or answer.function
+    answer.run = run_of(dict(words))
+    return answer
+
+
+def edits():
+    """The edits of the merge gate, each by its crate and name, with the file that it changes first."""
+    found = {}
+    for crate in sorted(os.listdir(CRATES)):
+        folder = os.path.join(CRATES, crate, "must-fail")
+        for name in sorted(os.listdir(folder)) if os.path.isdir(folder) else []:
+            file = read(os.path.join(folder, name)).split("\n")[0].removeprefix("file: ")
+            found[f"{crate}/{name.removesuffix('.edit')}"] = file
+    return found
+
+
+def instances():
+    """Of each edit of a definition or a theorem an instance of which it is false, and the sheet that shows it, if one does."""
+    entries = [dict(fields(entry)) for entry in re.split(r"\n\n+", read(INSTANCES).strip())]
+    return {words["edit"]: (" ".join(words["false of"].split()), run_of(words)) for words in entries if words}
+
+
+def gate_edit(answer):
+    """Reads the pairs of the merge gate's edit, so that they can be held to the function that the entry names."""
+    path = os.path.join(CRATES, answer.crate, "must-fail", answer.must_fail + ".edit")
+    texts = [line.split(": ", 1) for line in read(path).strip().split("\n")]
+    if texts[0] != ["file", "src/lib.rt"]:
+        raise Failure(f"{answer.crate}/{answer.must_fail} changes no code")
+    news = [text for word, text in texts if word == "new"]
+    return list(zip([text for word, text in texts if word == "old"], news))
+
+
+def answers_of(crate):
+    """The wrong answers of a crate, each held to the code as it stands; none where the crate has no file of them."""
+    if not os.path.exists(os.path.join(ENTRIES, crate)):
+        return []
+    text = read(os.path.join(ROOT, source(crate)))
+    known = functions(text)
+    entries = re.split(r"\n\n+", read(os.path.join(ENTRIES, crate)).strip())
+    answers = [answer_of(crate, entry) for entry in entries if fields(entry)]
+    for answer in answers:
+        if answer.function not in known or not known[answer.function].public:
+            raise Failure(f"{crate}::{answer.function} is no public function")
+        if answer.must_fail:
+            answer.pairs = gate_edit(answer)
+            changed(text, answer)
+            answer.refused = f"must-fail edit `{answer.must_fail}`"
+        elif changed(text, answer) == text or not answer.says:
+            raise Failure(f"{crate}::{answer.function}: an entry that changes or says nothing")
+    return answers
+
+
+def counts(crate, answers):
+    """Of each public function how many wrong answers there are that differ from each other."""
+    found = {name: set() for name, known in functions(read(os.path.join(ROOT, source(crate)))).items() if known.public}
+    for answer in answers:
+        found[answer.function].add((answer.place, *answer.pairs))
+    return {name: len(own) for name, own in found.items()}
+
+
+# ---- A folder to change code in
+
+
+def lay_out(copied, folder):
+    """The repository in `folder`: the named crates as copies, the others and the proved libraries as links."""
+    os.makedirs(os.path.join(folder, "crates"), exist_ok=True)
+    os.makedirs(os.path.join(folder, "target"), exist_ok=True)
+    shutil.copy(os.path.join(ROOT, "crates.txt"), folder)
+    for name in os.listdir(CRATES):
+        place = os.path.join(folder, "crates", name)
+        if os.path.islink(place):
+            os.remove(place)
+        elif os.path.isdir(place):
+            shutil.rmtree(place)
+        if name in copied:
+            shutil.copytree(os.path.join(CRATES, name), place)
+        else:
+            os.symlink(os.path.join(CRATES, name), place)
