@@ -272,6 +272,18 @@ def answers_of(crate):
     return answers
 
 
+def all_answers():
+    """The wrong answers of every crate with public functions, and what is wrong with the entries of those that have none."""
+    found, failures = {}, []
+    for crate in crates():
+        try:
+            found[crate] = answers_of(crate)
+        except Failure as failure:
+            found[crate] = []
+            failures.append(str(failure))
+    return found, failures
+
+
 def counts(crate, answers):
     """Of each public function how many wrong answers there are that differ from each other."""
     found = {name: set() for name, known in functions(read(os.path.join(ROOT, source(crate)))).items() if known.public}
