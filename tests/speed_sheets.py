@@ -209,10 +209,10 @@ def checks():
 
 def dear_events():
     """Full sheets by name, whose lines go through tables that are as full as they may be."""
-    every, half, third = range(REGISTERS), range(30), range(21)
+    every, half, third = (range(REGISTERS // part) for part in (1, 2, 3))
     permanent, branches = [f"perm {MOST}"] * REGISTERS, ["open 4 2 3"] * BRANCHES
     several, some = (" ".join(map(str, numbers)) for numbers in (every, half))
-    moved = ["args 0", "contents", f"head {some}", *numbered("var f s h {}", half), "args 30"]
+    moved = ["args 0", "contents", f"head {some}", *numbered("var f s h {}", half), f"args {len(half)}"]
     chunks = numbered("l{}", range(VARIABLES))
     return {
         "sets, one chunk": filled(restricting(["l1"], ["l1"]), ["sets"]),
@@ -224,22 +224,23 @@ def dear_events():
         "take, in 16 branches": filled([*permanent, *branches], [*numbered("var q d l1 {}", third), *["take"] * len(third)]),
         "close, of 16 branches": filled(permanent, [*branches, f"close {BRANCHES} {several}"]),
         "arm, in 16 branches": filled(branches, ["arm 5 6"]),
-        "anon, registers full": filled([], [*["anon q d l1"] * 62, "contents", "args 0"]),
-        "nonvar, registers full": filled([], [*["nonvar q d l1 0"] * 62, "contents", "args 0"]),
+        "anon, registers full": filled([], [*["anon q d l1"] * (REGISTERS - 1), "contents", "args 0"]),
+        "nonvar, registers full": filled([], [*["nonvar q d l1 0"] * (REGISTERS - 1), "contents", "args 0"]),
     }
 
 
 def dear_checks():
     """Check sheets of as many steps and instructions as there may be, by name."""
+
     def steps(first, others):
         """A step of each k in turn, and its instructions."""
         numbers = [step % REGISTERS + 1 for step in range(STEPS)]
-        return text(line.format(k=k, below=k % REGISTERS + 1) for k in numbers for line in (first, *others))
+        return text(line.format(k=k, after=k % REGISTERS + 1) for k in numbers for line in (first, *others))
 
-    values = ["get_value x{k} {below}"] * (INSTRUCTIONS - 1)
+    values = ["get_value x{k} {after}"] * (INSTRUCTIONS - 1)
     return {
-        "equalities, rising": steps("h {k} 0", ["get_value x{k} {below}", *values]),
-        "equalities, a variable each": steps("h {k} {k}", ["get_value x{below} {k}", *values]),
-        "moves": steps("h {k} 0", ["get_variable y{below} {k}"] * INSTRUCTIONS),
+        "equalities, rising": steps("h {k} 0", ["get_value x{k} {after}", *values]),
+        "equalities, a variable each": steps("h {k} {k}", ["get_value x{after} {k}", *values]),
+        "moves": steps("h {k} 0", ["get_variable y{after} {k}"] * INSTRUCTIONS),
         "deep subterms": steps("hd {k}", ["unify_variable y{k}", *values]),
     }
