@@ -7,6 +7,8 @@ use Rattle.notation.specs.Text.{bytes}
 use Rattle.words.specs.Words.{codeAmong}
 use Rattle.events.specs.declared.Event.{Event}
 use Rattle.events.specs.declared.Event.the-variants.{Perm, Sets, Args, Cut, Incr, Free, Safe, Give, Tail, Next, Arm, Take, Reset, Contents, ClearFree}
+use Rattle.event_lines.specs.declared.Line.{Line}
+use Rattle.event_lines.specs.declared.Line.the-variants.{Malformed, Says}
 
 -- `open` has three numbers; three words have a term's place; three have a list
 abbrev pub otherWords : List (List ℕ)
@@ -50,22 +52,17 @@ wordCode word = codeAmong 1 lineWords word
 
 -- ---- The events of the numbers
 
-unfoldable pub bareEvent : ℕ → Event
-bareEvent code =
-    if eqb code 1
-    then Sets
-    else if eqb code 2
-    then Next
-    else if eqb code 3 then Take else if eqb code 4 then Reset else if eqb code 5 then Contents else ClearFree
+-- what a number says among events that are numbered from `first` on; nothing where it is none of theirs
+unfoldable pub saidAmong : ℕ → List Event → ℕ → Line
+saidAmong first [] code = Malformed
+saidAmong first (event ∷ events) code = if eqb code first then Says event 0 else saidAmong (suc first) events code
 
-unfoldable pub oneEvent : ℕ → ℕ → Event
-oneEvent code n =
-    if eqb code 7
-    then Perm n
-    else if eqb code 8
-    then Args n
-    else if eqb code 9 then Incr n else if eqb code 10 then Safe n else if eqb code 11 then Give n else Tail n
+abbrev pub bareSaid : ℕ → Line
+bareSaid code = saidAmong 1 (Sets ∷ Next ∷ Take ∷ Reset ∷ Contents ∷ ClearFree ∷ []) code
+
+abbrev pub oneSaid : ℕ → ℕ → Line
+oneSaid code n = saidAmong 7 (Perm n ∷ Args n ∷ Incr n ∷ Safe n ∷ Give n ∷ Tail n ∷ []) code
 
 -- `cut` v chunk, `free` chunk v, `arm` start span
-unfoldable pub twoEvent : ℕ → ℕ → ℕ → Event
-twoEvent code a b = if eqb code 13 then Cut a b else if eqb code 14 then Free a b else Arm a b
+abbrev pub twoSaid : ℕ → ℕ → ℕ → Line
+twoSaid code a b = saidAmong 13 (Cut a b ∷ Free a b ∷ Arm a b ∷ []) code

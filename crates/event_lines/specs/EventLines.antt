@@ -32,7 +32,7 @@ use Rattle.event_lines.specs.declared.ThreeNumbers.{ThreeNumbers}
 use Rattle.event_lines.specs.declared.ThreeNumbers.the-variants.{Of as ofThree, Malformed as noThree}
 use Rattle.event_lines.specs.declared.Counted.{Counted}
 use Rattle.event_lines.specs.declared.Counted.the-variants.{Of as ofCount, Malformed as noCount}
-use Rattle.event_lines.specs.Codes.{wordCode, bareEvent, oneEvent, twoEvent}
+use Rattle.event_lines.specs.Codes.{wordCode, bareSaid, oneSaid, twoSaid}
 
 -- ---- Fields that are numbers, so many and no more
 
@@ -62,15 +62,15 @@ threeNumbers (field ∷ fields) = tripled (numberOf field) (twoNumbers fields)
 -- ---- Words that stand alone, and words with numbers
 
 unfoldable pub bareLine : ℕ → List (List ℕ) → Line
-bareLine code [] = Says (bareEvent code) 0
+bareLine code [] = bareSaid code
 bareLine code (field ∷ fields) = Malformed
 
 abbrev pub withOne : ℕ → Number → Line
-withOne code (Of n) = Says (oneEvent code n) 0
+withOne code (Of n) = oneSaid code n
 withOne code noNumber = Malformed
 
 abbrev pub withTwo : ℕ → TwoNumbers → Line
-withTwo code (ofTwo a b) = Says (twoEvent code a b) 0
+withTwo code (ofTwo a b) = twoSaid code a b
 withTwo code noTwo = Malformed
 
 -- `open` start span arms
@@ -94,9 +94,9 @@ nonVarLine level context noNumber = Malformed
 
 unfoldable pub markOf : ℕ → Target → Level → GenContext → List (List ℕ) → Line
 markOf code target level context fields =
-    if eqb code 17
-    then varLine target level context (oneNumber fields)
-    else if eqb code 18 then anonLine target level context fields else nonVarLine level context (oneNumber fields)
+    if eqb code 17 then varLine target level context (oneNumber fields)
+    else if eqb code 18 then anonLine target level context fields
+    else if eqb code 19 then nonVarLine level context (oneNumber fields) else Malformed
 
 abbrev pub marked : ℕ → ContextField → LevelField → TargetField → List (List ℕ) → Line
 marked code (ofContext context) (ofLevel level) (ofTarget target) fields = markOf code target level context fields
@@ -186,32 +186,26 @@ closeList (depth ∷ fields) = leading Variables fields
 
 unfoldable pub listLine : ℕ → List (List ℕ) → Line
 listLine code fields =
-    if eqb code 20 then tempLine fields else if eqb code 21 then headed (counted Arguments fields) else closeLine fields
+    if eqb code 20 then tempLine fields
+    else if eqb code 21 then headed (counted Arguments fields)
+    else if eqb code 22 then closeLine fields else Malformed
 
-unfoldable pub listEntries : ℕ → List (List ℕ) → List ℕ
-listEntries code fields =
-    if eqb code 20 then tempList fields else if eqb code 21 then leading Arguments fields else closeList fields
-
--- ---- A line: its word's number decides how the fields behind it are read
-
--- a line without a list
-unfoldable pub plainLine : ℕ → List (List ℕ) → Line
-plainLine code fields =
-    if leb code 0
-    then Malformed
-    else if leb code 6
-    then bareLine code fields
-    else if leb code 12
-    then withOne code (oneNumber fields)
-    else if leb code 15
-    then withTwo code (twoNumbers fields)
-    else if leb code 16 then withThree (threeNumbers fields) else markLine code fields
+-- ---- A line: its word's number decides how the fields behind it are read; a number of no word makes no line
 
 unfoldable pub saidBy : ℕ → List (List ℕ) → Line
-saidBy code fields = if leb code 19 then plainLine code fields else listLine code fields
+saidBy code fields =
+    if leb code 6 then bareLine code fields
+    else if leb code 12 then withOne code (oneNumber fields)
+    else if leb code 15 then withTwo code (twoNumbers fields)
+    else if leb code 16 then withThree (threeNumbers fields)
+    else if leb code 19 then markLine code fields else listLine code fields
 
+-- a line without a list has no entries
 unfoldable pub entriesBy : ℕ → List (List ℕ) → List ℕ
-entriesBy code fields = if leb code 19 then [] else listEntries code fields
+entriesBy code fields =
+    if eqb code 20 then tempList fields
+    else if eqb code 21 then leading Arguments fields
+    else if eqb code 22 then closeList fields else []
 
 unfoldable pub fieldsSay : List (List ℕ) → Line
 fieldsSay [] = Malformed
@@ -225,6 +219,6 @@ fieldsList (word ∷ fields) = entriesBy (wordCode word) fields
 unfoldable pub lineSays : List ℕ → Line
 lineSays line = fieldsSay (split tab line)
 
--- the entries of its list; a line without a list has none
+-- the entries of its list
 unfoldable pub lineList : List ℕ → List ℕ
 lineList line = fieldsList (split tab line)

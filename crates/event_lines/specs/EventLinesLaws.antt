@@ -7,6 +7,7 @@ use native.Mathlib.Omega.{arith}
 use lib.Dec.{eqb, leb}
 use lib.ListN.{length, take, drop, length-append}
 use lib.Seq.{take-take, take-append-seam}
+use borrow.Author.Tests.{eqb-true}
 use Rattle.notation.specs.Choice.{if_then_else_}
 use Rattle.notation.specs.Text.{bytes}
 use Rattle.split.specs.Split.{tab, split, joined}
@@ -38,8 +39,8 @@ use Rattle.event_lines.specs.declared.ThreeNumbers.{ThreeNumbers}
 use Rattle.event_lines.specs.declared.ThreeNumbers.the-variants.{Of as ofThree, Malformed as noThree}
 use Rattle.event_lines.specs.declared.Counted.{Counted}
 use Rattle.event_lines.specs.declared.Counted.the-variants.{Of as ofCount, Malformed as noCount}
-use Rattle.event_lines.specs.Codes.{wordCode}
-use Rattle.event_lines.specs.EventLines.{oneNumber, twoNumbers, threeNumbers, bareLine, withOne, withTwo, withThree, varLine, anonLine, nonVarLine, markOf, marked, markLine, isEntry, allEntries, counted, inFrontOf, leading, comma, usesCount, usesList, recorded, tempLine, tempList, headed, closed, closeLine, closeList, listLine, listEntries, plainLine, saidBy, entriesBy, fieldsSay, fieldsList, lineSays, lineList}
+use Rattle.event_lines.specs.Codes.{wordCode, saidAmong}
+use Rattle.event_lines.specs.EventLines.{oneNumber, twoNumbers, threeNumbers, bareLine, withOne, withTwo, withThree, varLine, anonLine, nonVarLine, markOf, marked, markLine, isEntry, allEntries, counted, inFrontOf, leading, comma, usesCount, usesList, recorded, tempLine, tempList, headed, closed, closeLine, closeList, listLine, saidBy, entriesBy, fieldsSay, fieldsList, lineSays, lineList}
 
 -- ---- A line that says something counts as many entries as its list has
 
@@ -57,17 +58,23 @@ either : (t : Bool) (a b : Line) (k : ℕ) → Counts a k → Counts b k → Cou
 either true a b k p q = p
 either false a b k p q = q
 
+among-counts : (first : ℕ) (events : List Event) (code : ℕ) → Counts (saidAmong first events code) 0
+unfolding saidAmong
+among-counts first [] code = never 0
+among-counts first (event ∷ events) code =
+    either (eqb code first) _ _ 0 (says event 0) (among-counts (suc first) events code)
+
 bare-counts : (code : ℕ) (fields : List (List ℕ)) → Counts (bareLine code fields) 0
 unfolding bareLine
-bare-counts code [] = says _ 0
+bare-counts code [] = among-counts _ _ code
 bare-counts code (field ∷ fields) = never 0
 
 one-counts : (code : ℕ) (number : Number) → Counts (withOne code number) 0
-one-counts code (Of n) = says _ 0
+one-counts code (Of n) = among-counts _ _ code
 one-counts code noNumber = never 0
 
 two-counts : (code : ℕ) (numbers : TwoNumbers) → Counts (withTwo code numbers) 0
-two-counts code (ofTwo a b) = says _ 0
+two-counts code (ofTwo a b) = among-counts _ _ code
 two-counts code noTwo = never 0
 
 three-counts : (numbers : ThreeNumbers) → Counts (withThree numbers) 0
@@ -93,7 +100,8 @@ module _ (code : ℕ) where
     unfolding markOf
     mark-of-counts fields =
         either (eqb code 17) _ _ 0 (var-counts (oneNumber fields))
-        (either (eqb code 18) _ _ 0 (anon-counts fields) (nonvar-counts (oneNumber fields)))
+        (either (eqb code 18) _ _ 0 (anon-counts fields)
+        (either (eqb code 19) _ _ 0 (nonvar-counts (oneNumber fields)) (never 0)))
 
   marked-counts :
       (context : ContextField) (level : LevelField) (target : TargetField) (fields : List (List ℕ))
@@ -109,15 +117,6 @@ module _ (code : ℕ) where
   mark-counts (target ∷ []) = never 0
   mark-counts (target ∷ (level ∷ [])) = never 0
   mark-counts (target ∷ (level ∷ (context ∷ fields))) = marked-counts (contextOf context) (levelOf level) (targetOf target) fields
-
-  plain-counts : (fields : List (List ℕ)) → Counts (plainLine code fields) 0
-  unfolding plainLine
-  plain-counts fields =
-      either (leb code 0) _ _ 0 (never 0)
-      (either (leb code 6) _ _ 0 (bare-counts code fields)
-      (either (leb code 12) _ _ 0 (one-counts code (oneNumber fields))
-      (either (leb code 15) _ _ 0 (two-counts code (twoNumbers fields))
-      (either (leb code 16) _ _ 0 (three-counts (threeNumbers fields)) (mark-counts fields)))))
 
 -- ---- Lists
 
@@ -184,25 +183,52 @@ unfolding closeLine closeList
 close-counts [] = never 0
 close-counts (depth ∷ fields) = closed-counts (numberOf depth) (counted Variables fields) _ (list-counts Variables fields)
 
-listed-counts : (code : ℕ) (fields : List (List ℕ)) → Counts (listLine code fields) (length (listEntries code fields))
-unfolding listLine listEntries
-listed-counts code fields =
-    elim (eqb code 20) as
-    (λ t. Counts (if t then tempLine fields else if eqb code 21 then headed (counted Arguments fields) else closeLine fields)
-    (length (if t then tempList fields else if eqb code 21 then leading Arguments fields else closeList fields))) [
-      | true ↦ temp-counts fields
-      | false ↦ elim (eqb code 21) as
-          (λ t. Counts (if t then headed (counted Arguments fields) else closeLine fields)
-          (length (if t then leading Arguments fields else closeList fields)))
-          [ true ↦ headed-counts (counted Arguments fields) _ (list-counts Arguments fields) | false ↦ close-counts fields ]
-    ]
+-- ---- All lines
 
-said-counts : (code : ℕ) (fields : List (List ℕ)) → Counts (saidBy code fields) (length (entriesBy code fields))
-unfolding saidBy entriesBy
-said-counts code fields =
-    elim (leb code 19) as
-    (λ t. Counts (if t then plainLine code fields else listLine code fields) (length (if t then [] else listEntries code fields)))
-    [ true ↦ plain-counts code fields | false ↦ listed-counts code fields ]
+module _ (code : ℕ) (fields : List (List ℕ)) where
+  said-temp : code ≡ 20 → Counts (saidBy code fields) (length (tempList fields))
+  unfolding saidBy listLine
+  said-temp e = rw e (temp-counts fields)
+
+  said-head : code ≡ 21 → Counts (saidBy code fields) (length (leading Arguments fields))
+  unfolding saidBy listLine
+  said-head e = rw e (headed-counts (counted Arguments fields) _ (list-counts Arguments fields))
+
+  said-close : code ≡ 22 → Counts (saidBy code fields) (length (closeList fields))
+  unfolding saidBy listLine
+  said-close e = rw e (close-counts fields)
+
+  said-other : eqb code 20 ≡ false → eqb code 21 ≡ false → eqb code 22 ≡ false → Counts (saidBy code fields) 0
+  unfolding saidBy listLine
+  said-other temp head close =
+      rw (temp, head, close)
+      (either (leb code 6) _ _ 0 (bare-counts code fields)
+      (either (leb code 12) _ _ 0 (one-counts code (oneNumber fields))
+      (either (leb code 15) _ _ 0 (two-counts code (twoNumbers fields))
+      (either (leb code 16) _ _ 0 (three-counts (threeNumbers fields))
+      (either (leb code 19) _ _ 0 (mark-counts code fields) (never 0))))))
+
+  said-counts : Counts (saidBy code fields) (length (entriesBy code fields))
+  unfolding entriesBy
+  said-counts =
+      elim (eqb code 20) as
+      (λ t. eqb code 20 ≡ t → Counts (saidBy code fields)
+      (length (if t then tempList fields else if eqb code 21 then leading Arguments fields else if eqb code 22 then closeList fields else []))) [
+        | true ↦ λ temp. said-temp (eqb-true code 20 temp)
+        | false ↦ λ temp. elim (eqb code 21) as
+            (λ t. eqb code 21 ≡ t → Counts (saidBy code fields)
+            (length (if t then leading Arguments fields else if eqb code 22 then closeList fields else []))) [
+              | true ↦ λ head. said-head (eqb-true code 21 head)
+              | false ↦ λ head. elim (eqb code 22) as
+                  (λ t. eqb code 22 ≡ t → Counts (saidBy code fields) (length (if t then closeList fields else []))) [
+                    | true ↦ λ close. said-close (eqb-true code 22 close)
+                    | false ↦ λ close. said-other temp head close
+                  ]
+                  refl
+            ]
+            refl
+      ]
+      refl
 
 fields-count : (fields : List (List ℕ)) → Counts (fieldsSay fields) (length (fieldsList fields))
 unfolding fieldsSay fieldsList
@@ -266,19 +292,18 @@ module _ (word : List ℕ) where
   close-le (depth ∷ fields) = omega (arith, leading-le Variables fields, joined-le tab word (depth ∷ fields))
 
   entries-le : (code : ℕ) (fields : List (List ℕ)) → length (entriesBy code fields) ≤ length (joined tab (word ∷ fields))
-  unfolding entriesBy listEntries
+  unfolding entriesBy
   entries-le code fields =
-      elim (leb code 19) as
-      (λ t. length (if t then [] else if eqb code 20 then tempList fields else if eqb code 21 then leading Arguments fields else closeList fields)
+      elim (eqb code 20) as
+      (λ t. length (if t then tempList fields else if eqb code 21 then leading Arguments fields else if eqb code 22 then closeList fields else [])
       ≤ length (joined tab (word ∷ fields))) [
-        | true ↦ zero-le
-        | false ↦ elim (eqb code 20) as
-            (λ t. length (if t then tempList fields else if eqb code 21 then leading Arguments fields else closeList fields)
-            ≤ length (joined tab (word ∷ fields))) [
-              | true ↦ temp-le fields
-              | false ↦ elim (eqb code 21) as
-                  (λ t. length (if t then leading Arguments fields else closeList fields) ≤ length (joined tab (word ∷ fields)))
-                  [ true ↦ arguments-le fields | false ↦ close-le fields ]
+        | true ↦ temp-le fields
+        | false ↦ elim (eqb code 21) as
+            (λ t. length (if t then leading Arguments fields else if eqb code 22 then closeList fields else []) ≤ length (joined tab (word ∷ fields))) [
+              | true ↦ arguments-le fields
+              | false ↦ elim (eqb code 22) as
+                  (λ t. length (if t then closeList fields else []) ≤ length (joined tab (word ∷ fields)))
+                  [ true ↦ close-le fields | false ↦ zero-le ]
             ]
       ]
 

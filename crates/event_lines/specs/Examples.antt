@@ -15,8 +15,8 @@ use Rattle.events.specs.Events.{noVariable}
 use Rattle.event_fields.specs.EventFields.{targetOf, levelOf, contextOf, useIn, useOf, noUse, noSuchVariable, variableEntry, argumentOf}
 use Rattle.event_lines.specs.declared.Line.{Line}
 use Rattle.event_lines.specs.declared.Line.the-variants.{Malformed, Says}
-use Rattle.event_lines.specs.Codes.{wordCode, bareEvent, oneEvent, twoEvent}
-use Rattle.event_lines.specs.EventLines.{oneNumber, twoNumbers, threeNumbers, bareLine, anonLine, markOf, markLine, allEntries, counted, leading, usesCount, usesList, tempLine, tempList, closeLine, closeList, listLine, listEntries, plainLine, saidBy, entriesBy, fieldsSay, fieldsList, lineSays, lineList}
+use Rattle.event_lines.specs.Codes.{wordCode, saidAmong}
+use Rattle.event_lines.specs.EventLines.{oneNumber, twoNumbers, threeNumbers, bareLine, anonLine, markOf, markLine, allEntries, counted, leading, usesCount, usesList, tempLine, tempList, closeLine, closeList, listLine, saidBy, entriesBy, fieldsSay, fieldsList, lineSays, lineList}
 
 -- each word, in document 01's order
 abbrev wellFormed : List (List ℕ × Line)
@@ -78,13 +78,13 @@ lists =
     ∷ []
 
 pub lines-read : map (λ (e : List ℕ × Line). lineSays (e .0)) wellFormed ≡ map (λ (e : List ℕ × Line). e .1) wellFormed
-unfolding lineSays lineList fieldsSay fieldsList split inFront saidBy entriesBy plainLine wordCode codeAmong same bareLine bareEvent oneEvent twoEvent oneNumber twoNumbers threeNumbers markLine markOf anonLine listLine listEntries tempLine tempList usesCount usesList closeLine closeList counted allEntries leading numberOf isNumber allDigits isDigit valueFrom needlessZero targetOf levelOf contextOf useOf useIn before after argumentOf variableEntry
+unfolding lineSays lineList fieldsSay fieldsList split inFront saidBy entriesBy wordCode codeAmong same bareLine saidAmong oneNumber twoNumbers threeNumbers markLine markOf anonLine listLine tempLine tempList usesCount usesList closeLine closeList counted allEntries leading numberOf isNumber allDigits isDigit valueFrom needlessZero targetOf levelOf contextOf useOf useIn before after argumentOf variableEntry
 lines-read = refl
 
 pub lines-refused : map lineSays malformed ≡ map (λ (line : List ℕ). Malformed) malformed
-unfolding lineSays lineList fieldsSay fieldsList split inFront saidBy entriesBy plainLine wordCode codeAmong same bareLine bareEvent oneEvent twoEvent oneNumber twoNumbers threeNumbers markLine markOf anonLine listLine listEntries tempLine tempList usesCount usesList closeLine closeList counted allEntries leading numberOf isNumber allDigits isDigit valueFrom needlessZero targetOf levelOf contextOf useOf useIn before after argumentOf variableEntry
+unfolding lineSays lineList fieldsSay fieldsList split inFront saidBy entriesBy wordCode codeAmong same bareLine saidAmong oneNumber twoNumbers threeNumbers markLine markOf anonLine listLine tempLine tempList usesCount usesList closeLine closeList counted allEntries leading numberOf isNumber allDigits isDigit valueFrom needlessZero targetOf levelOf contextOf useOf useIn before after argumentOf variableEntry
 lines-refused = refl
 
 pub lists-read : map (λ (e : List ℕ × List ℕ). lineList (e .0)) lists ≡ map (λ (e : List ℕ × List ℕ). e .1) lists
-unfolding lineSays lineList fieldsSay fieldsList split inFront saidBy entriesBy plainLine wordCode codeAmong same bareLine bareEvent oneEvent twoEvent oneNumber twoNumbers threeNumbers markLine markOf anonLine listLine listEntries tempLine tempList usesCount usesList closeLine closeList counted allEntries leading numberOf isNumber allDigits isDigit valueFrom needlessZero targetOf levelOf contextOf useOf useIn before after argumentOf variableEntry
+unfolding lineSays lineList fieldsSay fieldsList split inFront saidBy entriesBy wordCode codeAmong same bareLine saidAmong oneNumber twoNumbers threeNumbers markLine markOf anonLine listLine tempLine tempList usesCount usesList closeLine closeList counted allEntries leading numberOf isNumber allDigits isDigit valueFrom needlessZero targetOf levelOf contextOf useOf useIn before after argumentOf variableEntry
 lists-read = refl

@@ -7,7 +7,7 @@ use native.Mathlib.Omega.{arith}
 use lib.Dec.{leb, ltb}
 use lib.ListN.{length, take, drop, set, length-drop, drop-of-length-le}
 use lib.Seq.{take-nil, drop-nil, take-all, set-out}
-use borrow.Author.Tests.{le-leb, lt-leb, leb-true, leb-false, ltb-true, ltb-false}
+use borrow.Author.Tests.{le-leb, lt-leb, leb-true, leb-false, ltb-true, ltb-false, ne-eqb}
 use Rattle.notation.specs.Text.{bytes}
 use Rattle.split.specs.Split.{tab, before, split}
 use Rattle.split.specs.SplitLaws.{take-before}
@@ -29,8 +29,8 @@ use Rattle.event_fields.specs.declared.ContextField.the-variants.{Malformed as 
 use Rattle.event_fields.specs.EventFields.{targetOf, levelOf, contextOf, entryOf}
 use Rattle.event_lines.specs.declared.Line.the-variants.{Malformed, Says}
 use Rattle.event_lines.specs.declared.Counted.the-variants.{Of as ofCount, Malformed as noCount}
-use Rattle.event_lines.specs.Codes.{wordCode, bareEvent}
-use Rattle.event_lines.specs.EventLines.{oneNumber, paired, twoNumbers, tripled, threeNumbers, bareLine, withOne, withTwo, withThree, anonLine, marked, markLine, allEntries, leading, counted, comma, usesCount, usesList, recorded, tempLine, tempList, closed, closeLine, closeList, listLine, listEntries, plainLine, saidBy, entriesBy, fieldsSay, fieldsList}
+use Rattle.event_lines.specs.Codes.{wordCode, saidAmong, bareSaid}
+use Rattle.event_lines.specs.EventLines.{oneNumber, paired, twoNumbers, tripled, threeNumbers, bareLine, withOne, withTwo, withThree, anonLine, marked, markLine, allEntries, leading, counted, comma, usesCount, usesList, recorded, tempLine, tempList, closed, closeLine, closeList, listLine, saidBy, entriesBy, fieldsSay, fieldsList}
 
 -- the next field, and what is left behind it
 abbrev pub next : ℕ → List ℕ → List ℕ
@@ -71,7 +71,7 @@ three-step (c ∷ cs) = rw (left-some tab (c ∷ cs) (omega arith))
 -- ---- No further field
 
 module _ (code : ℕ) (rest : List ℕ) where
-  pub bare-none : length rest ≡ 0 → bareLine code (fieldsLeft tab rest) ≡ Says (bareEvent code) 0
+  pub bare-none : length rest ≡ 0 → bareLine code (fieldsLeft tab rest) ≡ bareSaid code
   unfolding bareLine
   bare-none h = rw (left-none tab rest h)
 
@@ -270,61 +270,66 @@ put-more list at n ns put = ap (λ l. printed l (at + 1) ns) put ∙ put-next li
 
 -- ---- A line
 
-module _ (code : ℕ) (fields : List (List ℕ)) where
-  pub said-unknown : code ≡ 0 → saidBy code fields ≡ Malformed
-  unfolding saidBy plainLine
-  said-unknown h = rw h
+pub said-unknown : (code : ℕ) (fields : List (List ℕ)) → code ≡ 0 → saidBy code fields ≡ Malformed
+unfolding saidBy bareLine saidAmong
+said-unknown code [] h = rw h refl
+said-unknown code (field ∷ fields) h = rw h refl
 
-  pub said-bare : 0 < code → code ≤ 6 → saidBy code fields ≡ bareLine code fields
-  unfolding saidBy plainLine
-  said-bare l h = simp (le-leb code 19 (omega arith), lt-leb code 0 l, le-leb code 6 h)
+module _ (code : ℕ) (fields : List (List ℕ)) where
+  pub said-bare : code ≤ 6 → saidBy code fields ≡ bareLine code fields
+  unfolding saidBy
+  said-bare h = simp (le-leb code 6 h)
 
   pub said-one : 6 < code → code ≤ 12 → saidBy code fields ≡ withOne code (oneNumber fields)
-  unfolding saidBy plainLine
-  said-one l h = simp (le-leb code 19 (omega arith), lt-leb code 0 (omega arith), lt-leb code 6 l, le-leb code 12 h)
+  unfolding saidBy
+  said-one l h = simp (lt-leb code 6 l, le-leb code 12 h)
 
   pub said-two : 12 < code → code ≤ 15 → saidBy code fields ≡ withTwo code (twoNumbers fields)
-  unfolding saidBy plainLine
-  said-two l h =
-      simp (
-        le-leb code 19 (omega arith),
-        lt-leb code 0 (omega arith),
-        lt-leb code 6 (omega arith),
-        lt-leb code 12 l,
-        le-leb code 15 h,
-      )
+  unfolding saidBy
+  said-two l h = simp (lt-leb code 6 (omega arith), lt-leb code 12 l, le-leb code 15 h)
 
   pub said-three : code ≡ 16 → saidBy code fields ≡ withThree (threeNumbers fields)
-  unfolding saidBy plainLine
+  unfolding saidBy
   said-three h = rw h
 
   pub said-mark : 16 < code → code ≤ 19 → saidBy code fields ≡ markLine code fields
-  unfolding saidBy plainLine
+  unfolding saidBy
   said-mark l h =
       simp (
-        le-leb code 19 h,
-        lt-leb code 0 (omega arith),
         lt-leb code 6 (omega arith),
         lt-leb code 12 (omega arith),
         lt-leb code 15 (omega arith),
         lt-leb code 16 l,
+        le-leb code 19 h,
       )
 
   pub said-list : 19 < code → saidBy code fields ≡ listLine code fields
   unfolding saidBy
-  said-list l = simp (lt-leb code 19 l)
+  said-list l =
+      simp (
+        lt-leb code 6 (omega arith),
+        lt-leb code 12 (omega arith),
+        lt-leb code 15 (omega arith),
+        lt-leb code 16 (omega arith),
+        lt-leb code 19 l,
+      )
 
-  pub entries-none : code ≤ 19 → entriesBy code fields ≡ []
-  unfolding entriesBy
-  entries-none h = simp (le-leb code 19 h)
-
-  pub entries-list : 19 < code → entriesBy code fields ≡ listEntries code fields
-  unfolding entriesBy
-  entries-list l = simp (lt-leb code 19 l)
+  pub said-past : 22 < code → saidBy code fields ≡ Malformed
+  unfolding listLine
+  said-past h =
+      said-list (omega arith)
+      ∙ simp (ne-eqb code 20 (λ e. omega arith), ne-eqb code 21 (λ e. omega arith), ne-eqb code 22 (λ e. omega arith))
 
   -- a line without a list leaves the lent list as it is
-  pub put-no-entries : (list : List ℕ) → code ≤ 19 → list ≡ printed list 0 (entriesBy code fields)
-  put-no-entries list h = rw (entries-none h) (sym (put-none list 0))
+  pub put-no-entries : (list : List ℕ) → (20 ≤ code → 22 < code) → list ≡ printed list 0 (entriesBy code fields)
+  unfolding entriesBy
+  put-no-entries list outside =
+      simp (
+        ne-eqb code 20 (λ e. omega (arith, outside (omega arith))),
+        ne-eqb code 21 (λ e. omega (arith, outside (omega arith))),
+        ne-eqb code 22 (λ e. omega (arith, outside (omega arith))),
+      )
+      (sym (put-none list 0))
 
 pub line-step : (line : List ℕ) → fieldsSay (split tab line) ≡ saidBy (wordCode (take (length (before tab line)) line)) (fieldsLeft tab (drop (length (before tab line)) line))
 unfolding fieldsSay

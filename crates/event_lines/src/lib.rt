@@ -10,9 +10,9 @@ ghost use Rattle.event_lines.specs.Codes.{
   wordCode,
   numberWords,
   otherWords,
-  bareEvent,
-  oneEvent,
-  twoEvent,
+  bareSaid,
+  oneSaid,
+  twoSaid,
 };
 ghost use Rattle.event_lines.specs.EventLines.{
   oneNumber,
@@ -42,7 +42,6 @@ ghost use Rattle.event_lines.specs.EventLines.{
   closeLine,
   closeList,
   listLine,
-  listEntries,
   saidBy,
   entriesBy,
   lineSays,
@@ -237,17 +236,18 @@ fn three_numbers(rest: &[u8]) -> ThreeNumbers
     tripled(first, others)
 }
 
-// The event of a word that stands alone.
-fn bare_event(code: u32) -> Event
-    ensures { λ r. ⌜ r ≡ bareEvent code ⌝ }
+// What a word that stands alone says.
+fn bare_said(code: u32) -> Line
+    ensures { λ r. ⌜ r ≡ bareSaid code ⌝ }
 {
     match code {
-        1 => Event::Sets,
-        2 => Event::Next,
-        3 => Event::Take,
-        4 => Event::Reset,
-        5 => Event::Contents,
-        _ => Event::ClearFree,
+        1 => Line::Says(Event::Sets, 0),
+        2 => Line::Says(Event::Next, 0),
+        3 => Line::Says(Event::Take, 0),
+        4 => Line::Says(Event::Reset, 0),
+        5 => Line::Says(Event::Contents, 0),
+        6 => Line::Says(Event::ClearFree, 0),
+        _ => Line::Malformed,
     }
 }
 
@@ -256,22 +256,23 @@ fn bare_line(code: u32, rest: &[u8]) -> Line
     ensures { λ r. ⌜ r ≡ bareLine code (fieldsLeft tab (now (rest .entry))) ⌝ }
 {
     if rest.len() == 0 {
-        return Line::Says(bare_event(code), 0);
+        return bare_said(code);
     }
     Line::Malformed
 }
 
-// The event of a word with one number.
-fn one_event(code: u32, n: u32) -> Event
-    ensures { λ r. ⌜ r ≡ oneEvent code n ⌝ }
+// What a word with one number says.
+fn one_said(code: u32, n: u32) -> Line
+    ensures { λ r. ⌜ r ≡ oneSaid code n ⌝ }
 {
     match code {
-        7 => Event::Perm(n),
-        8 => Event::Args(n),
-        9 => Event::Incr(n),
-        10 => Event::Safe(n),
-        11 => Event::Give(n),
-        _ => Event::Tail(n),
+        7 => Line::Says(Event::Perm(n), 0),
+        8 => Line::Says(Event::Args(n), 0),
+        9 => Line::Says(Event::Incr(n), 0),
+        10 => Line::Says(Event::Safe(n), 0),
+        11 => Line::Says(Event::Give(n), 0),
+        12 => Line::Says(Event::Tail(n), 0),
+        _ => Line::Malformed,
     }
 }
 
@@ -280,19 +281,20 @@ fn with_one(code: u32, number: Number) -> Line
     ensures { λ r. ⌜ r ≡ withOne code number ⌝ }
 {
     match number {
-        Number::Of(n) => Line::Says(one_event(code, n), 0),
+        Number::Of(n) => one_said(code, n),
         Number::Malformed => Line::Malformed,
     }
 }
 
-// The event of a word with two numbers: `cut` v chunk, `free` chunk v, `arm` start span.
-fn two_event(code: u32, a: u32, b: u32) -> Event
-    ensures { λ r. ⌜ r ≡ twoEvent code a b ⌝ }
+// What a word with two numbers says: `cut` v chunk, `free` chunk v, `arm` start span.
+fn two_said(code: u32, a: u32, b: u32) -> Line
+    ensures { λ r. ⌜ r ≡ twoSaid code a b ⌝ }
 {
     match code {
-        13 => Event::Cut(a, b),
-        14 => Event::Free(a, b),
-        _ => Event::Arm(a, b),
+        13 => Line::Says(Event::Cut(a, b), 0),
+        14 => Line::Says(Event::Free(a, b), 0),
+        15 => Line::Says(Event::Arm(a, b), 0),
+        _ => Line::Malformed,
     }
 }
 
@@ -301,7 +303,7 @@ fn with_two(code: u32, numbers: TwoNumbers) -> Line
     ensures { λ r. ⌜ r ≡ withTwo code numbers ⌝ }
 {
     match numbers {
-        TwoNumbers::Of(a, b) => Line::Says(two_event(code, a, b), 0),
+        TwoNumbers::Of(a, b) => two_said(code, a, b),
         TwoNumbers::Malformed => Line::Malformed,
     }
 }
@@ -355,7 +357,8 @@ fn mark_of(code: u32, target: Target, level: Level, context: GenContext, rest: &
     match code {
         17 => var_line(target, level, context, one_number(rest)),
         18 => anon_line(target, level, context, rest),
-        _ => nonvar_line(level, context, one_number(rest)),
+        19 => nonvar_line(level, context, one_number(rest)),
+        _ => Line::Malformed,
     }
 }
 
@@ -521,7 +524,7 @@ fn close_line(rest: &[u8], list: &mut [u32]) -> Line
 // The line of a word with a list.
 fn list_line(code: u32, rest: &[u8], list: &mut [u32]) -> Line
     ensures { λ r. ⌜ r ≡ listLine code (fieldsLeft tab (now (rest .entry))) ⌝ }
-    ensures { λ _. ⌜ now (list .exit) ≡ printed (now (list .entry)) 0 (listEntries code (fieldsLeft tab (now (rest .entry)))) ⌝ }
+    ensures { λ _. ⌜ now (list .exit) ≡ printed (now (list .entry)) 0 (entriesBy code (fieldsLeft tab (now (rest .entry)))) ⌝ }
 {
     match code {
         20 => temp_line(rest, list),
@@ -529,7 +532,8 @@ fn list_line(code: u32, rest: &[u8], list: &mut [u32]) -> Line
             let arguments = read_list(events::Entries::Arguments, rest, TAB, list);
             headed(arguments)
         }
-        _ => close_line(rest, list),
+        22 => close_line(rest, list),
+        _ => Line::Malformed,
     }
 }
 
@@ -541,13 +545,13 @@ fn line_of(code: u32, rest: &[u8], list: &mut [u32]) -> Line
     ensures { λ _. ⌜ now (list .exit) ≡ printed (now (list .entry)) 0 (entriesBy code (fieldsLeft tab (now (rest .entry)))) ⌝ }
 {
     match code {
-        0 => Line::Malformed,
         1..=6 => bare_line(code, rest),
         7..=12 => with_one(code, one_number(rest)),
         13..=15 => with_two(code, two_numbers(rest)),
         16 => with_three(three_numbers(rest)),
         17..=19 => mark_line(code, rest),
-        20.. => list_line(code, rest, list),
+        20..=22 => list_line(code, rest, list),
+        _ => Line::Malformed,
     }
 }
 

@@ -36,8 +36,8 @@ use Rattle.debray_allocator.specs.declared.State.{State}
 use Rattle.debray_allocator.specs.declared.Answer.{Answer}
 use Rattle.debray_allocator.specs.DebrayAllocator.{seenAfter, refusedWith, acted, unlessRefused, stepped}
 use Rattle.event_fields.specs.EventFields.{targetOf, levelOf, contextOf as contextField, useIn, useOf, variableEntry, argumentOf}
-use Rattle.event_lines.specs.Codes.{wordCode, bareEvent, oneEvent, twoEvent}
-use Rattle.event_lines.specs.EventLines.{oneNumber, twoNumbers, threeNumbers, bareLine, markOf, markLine, allEntries, counted, leading, usesCount, usesList, tempLine, tempList, closeLine, closeList, listLine, listEntries, plainLine, saidBy, entriesBy, fieldsSay, fieldsList, lineSays, lineList}
+use Rattle.event_lines.specs.Codes.{wordCode, saidAmong}
+use Rattle.event_lines.specs.EventLines.{oneNumber, twoNumbers, threeNumbers, bareLine, markOf, markLine, allEntries, counted, leading, usesCount, usesList, tempLine, tempList, closeLine, closeList, listLine, saidBy, entriesBy, fieldsSay, fieldsList, lineSays, lineList}
 use Rattle.answers.specs.Answers.{answerText, endText}
 use Rattle.code_deque.specs.declared.CodeDeque.{CodeDeque}
 use Rattle.debray_allocator.specs.declared.At.{At}
@@ -45,7 +45,7 @@ use Rattle.event_lines.specs.declared.Line.{Line}
 
 -- a line read
 unfoldable pub lineRead : List ℕ → Line
-unfolding contextField oneNumber twoNumbers threeNumbers bareLine markOf markLine allEntries counted leading usesCount usesList tempLine tempList closeLine closeList listLine listEntries plainLine saidBy entriesBy fieldsSay fieldsList lineSays lineList codeAmong wordCode bareEvent oneEvent twoEvent targetOf levelOf useIn useOf variableEntry argumentOf isDigit allDigits valueFrom needlessZero isNumber numberOf same before after split inFront
+unfolding contextField oneNumber twoNumbers threeNumbers bareLine markOf markLine allEntries counted leading usesCount usesList tempLine tempList closeLine closeList listLine saidBy entriesBy fieldsSay fieldsList lineSays lineList codeAmong wordCode saidAmong targetOf levelOf useIn useOf variableEntry argumentOf isDigit allDigits valueFrom needlessZero isNumber numberOf same before after split inFront
 lineRead bytes = lineSays bytes
 
 -- its event carried out

@@ -30,7 +30,12 @@ returns-2 c = simp (c .before .match .keys2, c .anon-line .ensures)
 
 returns-3 : tie.Need-returns-3
 unfolding markOf
-returns-3 c = simp (ne-eqb _ _ (c .before .before .match .rest .1), ne-eqb _ _ (c .before .before .match .rest .0 .1), ← c .before .one-number2 .ensures, c .nonvar-line .ensures)
+returns-3 c = simp (c .before .before .match .keys3, ← c .before .one-number2 .ensures, c .nonvar-line .ensures)
+
+returns-4 : tie.Need-returns-4
+unfolding markOf
+returns-4 c =
+    simp (ne-eqb _ _ (c .match .rest .1), ne-eqb _ _ (c .match .rest .0 .1), ne-eqb _ _ (c .match .rest .0 .0 .1))
 
 pub mark-of-spec : {M : Type 1} → statement M
 mark-of-spec =
@@ -43,4 +48,5 @@ mark-of-spec =
     nonvar-line-requires
     returns
     returns-2
-    returns-3)
+    returns-3
+    returns-4)

@@ -6,18 +6,18 @@ use Rattle.event_lines.proofs.with_one.Statement.{statement}
 enum-known-number : tie.Need-enum-known-number
 enum-known-number c = search needs
 
-one-event-requires : tie.Need-one-event-requires
-one-event-requires c κs = search needs
+one-said-requires : tie.Need-one-said-requires
+one-said-requires c κs = search needs
 
 enum-told : tie.Need-enum-told
 enum-told c = search needs
 
 returns : tie.Need-returns
-returns c = simp (c .before .before .number .given .1, c .one-event .ensures)
+returns c = simp (c .before .before .number .given .1, c .one-said .ensures)
 
 returns-2 : tie.Need-returns-2
 returns-2 c = search needs
 
 pub with-one-spec : {M : Type 1} → statement M
 with-one-spec =
-    tie.close (tie.spec enum-known-number one-event-requires enum-told returns returns-2)
+    tie.close (tie.spec enum-known-number one-said-requires enum-told returns returns-2)
