@@ -59,22 +59,30 @@ fn next_byte() -> Next {
     Next::Byte(byte[0])
 }
 
-// Where no byte came: the input ended only if a further read says so.
-fn ended() -> Lead {
+// Whether the input ended where no byte came: only a further read says so.
+fn is_ended() -> bool {
     let mut byte = [0u8; 1];
     let further = libc::read(STDIN_FILENO, &mut byte);
-    if further == AT_THE_END {
-        return Lead::End;
-    }
-    Lead::Unread
+    further == AT_THE_END
 }
 
 // Where no byte came in a line, after so many bytes of it.
 fn ended_after(bytes: usize) -> Lead {
+    if !is_ended() {
+        return Lead::Unread;
+    }
     if bytes == 0 {
-        return ended();
+        return Lead::End;
     }
     Lead::Malformed
+}
+
+// Where fewer bytes came than a sheet and its answer have.
+fn cut_short() -> Verdict {
+    if is_ended() {
+        return Verdict::Malformed;
+    }
+    Verdict::Unread
 }
 
 // The second number of a line, behind the first.
@@ -167,11 +175,14 @@ fn replay(kind: Kind, sheet_bytes: usize, answer_bytes: usize) -> Verdict {
     let mut sheet = [0u8; INPUT_BYTES];
     let mut wanted = [0u8; SHEET_BYTES];
     let mut out = [UNTOUCHED; SHEET_BYTES];
-    if !read_exactly(&mut sheet, sheet_bytes) {
+    if INPUT_BYTES < sheet_bytes || SHEET_BYTES < answer_bytes {
         return Verdict::Malformed;
     }
+    if !read_exactly(&mut sheet, sheet_bytes) {
+        return cut_short();
+    }
     if !read_exactly(&mut wanted, answer_bytes) {
-        return Verdict::Malformed;
+        return cut_short();
     }
     let end = put_reply(kind, split::part_before(&sheet, sheet_bytes), &mut out);
     compared(&out, end, split::part_before(&wanted, answer_bytes))
