@@ -9,8 +9,8 @@ pub const INPUT_BYTES: usize = SHEET_BYTES + 1;
 // What a read answers where the input ends; where it fails it answers less.
 pub const AT_THE_END: isize = 0;
 
-// Whether so many bytes are the whole input, or enough of it to know that it is too long. A read of many bytes gives fewer
-// where the input ends, where the next part has not come yet, and where it fails; only a further read tells which it was.
+// Whether so many bytes are the whole input, or enough of it to know that it is too long. That a read gave fewer bytes than it
+// might says nothing: the next part may not have come yet. What the read behind them answered tells.
 pub fn is_whole(came: usize, further: isize) -> bool
     ensures { λ r. ⌜ r ≡ isWhole came further ⌝ }
 {
