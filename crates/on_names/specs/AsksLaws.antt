@@ -14,7 +14,7 @@ use Rattle.registers.specs.declared.RegType.the-variants.{Temp}
 use Rattle.steps.specs.declared.Step.{Step}
 use Rattle.steps.specs.declared.Step.the-variants.{Head, HeadDeep, Goal, GoalDeep, Call}
 use Rattle.steps.specs.Steps.{stepFits}
-use Rattle.steps.specs.StepsLaws.{argument-and-variable}
+use Rattle.steps.specs.OrderLaws.{argument-and-variable}
 use Rattle.machine.specs.Wanted.{Value, unfixed, fixed, Wanted, valueOr, valued, demanded, wants}
 use Rattle.symbolic.specs.Names.{placeName, stepName, noName, pairCells}
 use Rattle.symbolic.specs.Symbolic.{Pairs, pushed, listed, Wanting, valueOf, again, wanted}

@@ -5,7 +5,7 @@ use mathlib.Core.Bool.{true}
 use mathlib.Core.Logic.{_↔_}
 use mathlib.Core.List.{List, [], _∷_, map, head-eq-of-cons-eq, tail-eq-of-cons-eq}
 use Rattle.steps.specs.declared.CheckLine.{CheckLine}
-use Rattle.steps.specs.Steps.{freshOrder}
+use Rattle.steps.specs.Order.{freshOrder}
 use Rattle.machine.specs.Machine.{run}
 use Rattle.machine.specs.Wanted.{wanted}
 use Rattle.machine.specs.Right.{AllHold, RightFor, Right}

@@ -5,7 +5,7 @@ use mathlib.Core.Logic.{_↔_}
 use mathlib.Core.List.{List, map}
 use Rattle.classes.specs.Forces.{Holds}
 use Rattle.steps.specs.declared.CheckLine.{CheckLine}
-use Rattle.steps.specs.Steps.{freshOrder}
+use Rattle.steps.specs.Order.{freshOrder}
 use Rattle.symbolic.specs.Symbolic.{Symbols, listed, freshSymbols, carriedAll}
 
 -- a sheet's run on names

@@ -21,8 +21,9 @@ use Rattle.steps.specs.declared.Step.the-variants.{Head, HeadDeep, Goal, GoalDe
 use Rattle.steps.specs.declared.CheckLine.{CheckLine}
 use Rattle.steps.specs.declared.CheckLine.the-variants.{Begins, Does}
 use Rattle.steps.specs.declared.Order.{Order}
-use Rattle.steps.specs.Steps.{fits, freshOrder, begun, done, following, judged}
-use Rattle.steps.specs.StepsLaws.{line-fits, accepted-order, begins-few, does-few, argument-and-variable}
+use Rattle.steps.specs.Steps.{fits}
+use Rattle.steps.specs.Order.{freshOrder, begun, done, following, judged}
+use Rattle.steps.specs.OrderLaws.{line-fits, accepted-order, begins-few, does-few, argument-and-variable}
 use Rattle.classes.specs.Classes.{pairsOf}
 use Rattle.machine.specs.Machine.{Contents, Machine, begins, does, stepped, runFrom, atEntry, run}
 use Rattle.machine.specs.Machine.{carried as machineCarried}

@@ -1,59 +1,26 @@
--- The instructions by kind, and lines in an order.
+-- Lines in an order, each with its refusal.
 use Prim.Native.Nat.{ℕ}
 use mathlib.Core.Path.{_≡_, refl}
-use mathlib.Core.Bool.{true, false}
-use mathlib.Core.List.{List, [], _∷_, map}
-use Rattle.bit_set.specs.BitSet.{has, inserted}
+use mathlib.Core.List.{List, [], _∷_}
+use lib.Dec.{eqb}
+use Rattle.notation.specs.Choice.{if_then_else_}
+use Rattle.refusals.specs.Refusals.{accepted, refusedOrder}
 use Rattle.registers.specs.declared.RegType.the-variants.{Temp, Perm}
-use Rattle.instructions.specs.declared.Instruction.{Instruction}
-use Rattle.instructions.specs.declared.Instruction.the-variants.{GetVariable, GetValue, PutVariable, PutValue, PutUnsafeValue, SetVariable, SetValue, SetLocalValue, UnifyVariable, UnifyValue, UnifyLocalValue}
+use Rattle.instructions.specs.declared.Instruction.the-variants.{GetVariable, PutVariable, PutValue, PutUnsafeValue, SetVariable, SetValue, UnifyValue}
 use Rattle.steps.specs.declared.Step.the-variants.{Head, HeadDeep, Goal, GoalDeep, Call}
 use Rattle.steps.specs.declared.CheckLine.{CheckLine}
 use Rattle.steps.specs.declared.CheckLine.the-variants.{Begins, Does}
-use Rattle.steps.specs.declared.Order.{Order}
-use Rattle.steps.specs.Steps.{instructionNumber, isPutOrSet, isGetValueOrUnify, takesNumber, headTooLate, misplaced, instructionOutOfOrder, refusalOf, freshOrder, judgedAs, judged, refusalAtEnd}
+use Rattle.steps.specs.Steps.{stepsOf, instructionsOf, pastHead, inGoal, numberTaken, isUncalled, refusalOf}
 
-abbrev all : List Instruction
-all =
-    GetVariable (Temp 1) 2
-    ∷ GetValue (Temp 1) 2
-    ∷ PutVariable (Temp 1) 2
-    ∷ PutValue (Temp 1) 2
-    ∷ PutUnsafeValue 1 2
-    ∷ SetVariable (Temp 1)
-    ∷ SetValue (Temp 1)
-    ∷ SetLocalValue (Temp 1)
-    ∷ UnifyVariable (Temp 1)
-    ∷ UnifyValue (Temp 1)
-    ∷ UnifyLocalValue (Temp 1)
-    ∷ []
-
-pub put-or-set :
-    map (λ (i : Instruction). isPutOrSet (instructionNumber i)) all
-    ≡ false ∷ false ∷ true ∷ true ∷ true ∷ true ∷ true ∷ true ∷ false ∷ false ∷ false ∷ []
-unfolding isPutOrSet
-put-or-set = refl
-
-pub get-value-or-unify :
-    map (λ (i : Instruction). isGetValueOrUnify (instructionNumber i)) all
-    ≡ false ∷ true ∷ false ∷ false ∷ false ∷ false ∷ false ∷ false ∷ true ∷ true ∷ true ∷ []
-unfolding isGetValueOrUnify
-get-value-or-unify = refl
-
-pub takes-number :
-    map (λ (i : Instruction). takesNumber (instructionNumber i)) all
-    ≡ false ∷ false ∷ true ∷ false ∷ false ∷ true ∷ false ∷ false ∷ true ∷ true ∷ true ∷ []
-unfolding takesNumber
-takes-number = refl
-
--- the refusal of each line behind those before it, and then the sheet's
-unfoldable pub refusalsFrom : Order → List CheckLine → List ℕ
-refusalsFrom order [] = refusalAtEnd order ∷ []
-refusalsFrom order (line ∷ lines) = judged order line .refusal ∷ refusalsFrom (judged order line .order) lines
+-- the refusal of each line behind those before it that were accepted, and then the sheet's
+unfoldable pub refusalsFrom : List CheckLine → List CheckLine → List ℕ
+refusalsFrom earlier [] = (if isUncalled (stepsOf earlier) then refusedOrder else accepted) ∷ []
+refusalsFrom earlier (line ∷ lines) =
+    refusalOf earlier line ∷ refusalsFrom (if eqb (refusalOf earlier line) accepted then line ∷ earlier else earlier) lines
 
 -- no head step behind a goal step; the same argument again only behind `call`, and order before size
 pub goals :
-    refusalsFrom freshOrder
+    refusalsFrom []
     (Does (GetVariable (Temp 1) 1)
     ∷ Begins (HeadDeep 63)
     ∷ Begins (Goal 1 0)
@@ -67,12 +34,12 @@ pub goals :
     ∷ Begins (Goal 1 0)
     ∷ [])
     ≡ 2 ∷ 0 ∷ 0 ∷ 0 ∷ 2 ∷ 2 ∷ 3 ∷ 0 ∷ 2 ∷ 3 ∷ 0 ∷ 2 ∷ []
-unfolding refusalsFrom judged judgedAs refusalOf refusalAtEnd headTooLate instructionOutOfOrder misplaced isPutOrSet isGetValueOrUnify takesNumber has inserted
+unfolding refusalsFrom refusalOf stepsOf instructionsOf pastHead inGoal numberTaken isUncalled
 goals = refl
 
 -- the step's number is taken once, and the fifth instruction is one too many; a step line begins anew
 pub step-numbers :
-    refusalsFrom freshOrder
+    refusalsFrom []
     (Begins (Goal 1 0)
     ∷ Does (PutVariable (Temp 1) 1)
     ∷ Does (SetVariable (Temp 1))
@@ -89,5 +56,5 @@ pub step-numbers :
     ∷ Begins Call
     ∷ [])
     ≡ 0 ∷ 0 ∷ 2 ∷ 2 ∷ 3 ∷ 0 ∷ 0 ∷ 3 ∷ 0 ∷ 3 ∷ 7 ∷ 0 ∷ 0 ∷ 0 ∷ 0 ∷ []
-unfolding refusalsFrom judged judgedAs refusalOf refusalAtEnd headTooLate instructionOutOfOrder misplaced isPutOrSet isGetValueOrUnify takesNumber has inserted
+unfolding refusalsFrom refusalOf stepsOf instructionsOf pastHead inGoal numberTaken isUncalled
 step-numbers = refl

@@ -1,3 +1,5 @@
 pub mod Steps
-pub mod StepsLaws
+pub mod Order
+pub mod OrderLaws
+pub mod SumsLaws
 pub mod Examples

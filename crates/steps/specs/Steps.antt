@@ -1,105 +1,134 @@
--- The lines of a check sheet, and what refuses one: order, sizes, and what is full.
+-- The lines of a check sheet, and what refuses one behind the lines before it: order, sizes, and what is full.
+-- Lines and steps that stand before are listed with the last one first.
 use Prim.Native.Nat.{ℕ, _+_}
 use mathlib.Core.Bool.{Bool, true, false, not, _&&_, _||_}
+use mathlib.Core.List.{List, [], _∷_}
 use lib.Dec.{eqb, leb, ltb}
+use lib.ListN.{length}
 use Rattle.notation.specs.Choice.{if_then_else_}
 use Rattle.refusals.specs.Refusals.{accepted, refusedOrder, refusedSize, refusedFull}
 use Rattle.sizes.specs.Sizes.{variables, steps, instructions, isRegister}
-use Rattle.bit_set.specs.BitSet.{has, emptySet, inserted}
 use Rattle.registers.specs.declared.RegType.{RegType}
 use Rattle.registers.specs.declared.RegType.the-variants.{Temp, Perm}
 use Rattle.instructions.specs.declared.Instruction.{Instruction}
-use Rattle.instructions.specs.declared.Code.{Code}
-use Rattle.instructions.specs.Codes.{codeOf}
+use Rattle.instructions.specs.declared.Instruction.the-variants.{GetVariable, GetValue, PutVariable, PutValue, PutUnsafeValue, SetVariable, SetValue, SetLocalValue, UnifyVariable, UnifyValue, UnifyLocalValue}
 use Rattle.steps.specs.declared.Step.{Step}
 use Rattle.steps.specs.declared.Step.the-variants.{Head, HeadDeep, Goal, GoalDeep, Call}
 use Rattle.steps.specs.declared.CheckLine.{CheckLine}
 use Rattle.steps.specs.declared.CheckLine.the-variants.{Begins, Does}
-use Rattle.steps.specs.declared.Order.{Order}
-use Rattle.steps.specs.declared.Judged.{Judged}
 
--- ---- Kinds of step, and of instruction
+-- ---- What stands before
 
-abbrev pub noStep : ℕ
-noStep = 0
+-- the step lines; the last one is the step that the next instruction stands under
+unfoldable pub stepsOf : List CheckLine → List Step
+stepsOf [] = []
+stepsOf (Begins step ∷ earlier) = step ∷ stepsOf earlier
+stepsOf (Does instruction ∷ earlier) = stepsOf earlier
 
-abbrev pub headStep : ℕ
-headStep = 1
+-- the instructions under it
+unfoldable pub instructionsOf : List CheckLine → List Instruction
+instructionsOf [] = []
+instructionsOf (Begins step ∷ earlier) = []
+instructionsOf (Does instruction ∷ earlier) = instruction ∷ instructionsOf earlier
 
-abbrev pub goalStep : ℕ
-goalStep = 2
+-- ---- Instructions by kind
 
-abbrev pub callStep : ℕ
-callStep = 3
+abbrev pub isPutOrSet : Instruction → Bool
+isPutOrSet (GetVariable place k) = false
+isPutOrSet (GetValue place k) = false
+isPutOrSet (PutVariable place k) = true
+isPutOrSet (PutValue place k) = true
+isPutOrSet (PutUnsafeValue slot k) = true
+isPutOrSet (SetVariable place) = true
+isPutOrSet (SetValue place) = true
+isPutOrSet (SetLocalValue place) = true
+isPutOrSet (UnifyVariable place) = false
+isPutOrSet (UnifyValue place) = false
+isPutOrSet (UnifyLocalValue place) = false
 
-abbrev pub kindOf : Step → ℕ
-kindOf (Head k v) = headStep
-kindOf (HeadDeep v) = headStep
-kindOf (Goal k v) = goalStep
-kindOf (GoalDeep v) = goalStep
-kindOf Call = callStep
-
--- an instruction's number: 0 is `get_variable`, 1 `get_value`, 2 to 4 are Put, 5 to 7 Set and 8 to 10 Unify, and each starts
--- with its `variable`
-abbrev pub instructionNumber : Instruction → ℕ
-instructionNumber instruction = codeOf instruction .number
-
-unfoldable pub isPutOrSet : ℕ → Bool
-isPutOrSet number = leb 2 number && leb number 7
-
-unfoldable pub isGetValueOrUnify : ℕ → Bool
-isGetValueOrUnify number = eqb number 1 || leb 8 number
+abbrev pub isGetValueOrUnify : Instruction → Bool
+isGetValueOrUnify (GetVariable place k) = false
+isGetValueOrUnify (GetValue place k) = true
+isGetValueOrUnify (PutVariable place k) = false
+isGetValueOrUnify (PutValue place k) = false
+isGetValueOrUnify (PutUnsafeValue slot k) = false
+isGetValueOrUnify (SetVariable place) = false
+isGetValueOrUnify (SetValue place) = false
+isGetValueOrUnify (SetLocalValue place) = false
+isGetValueOrUnify (UnifyVariable place) = true
+isGetValueOrUnify (UnifyValue place) = true
+isGetValueOrUnify (UnifyLocalValue place) = true
 
 -- `put_variable`, `set_variable` and Unify: those that write or demand the step's number
-unfoldable pub takesNumber : ℕ → Bool
-takesNumber number = eqb number 2 || (eqb number 5 || leb 8 number)
+abbrev pub takesNumber : Instruction → Bool
+takesNumber (GetVariable place k) = false
+takesNumber (GetValue place k) = false
+takesNumber (PutVariable place k) = true
+takesNumber (PutValue place k) = false
+takesNumber (PutUnsafeValue slot k) = false
+takesNumber (SetVariable place) = true
+takesNumber (SetValue place) = false
+takesNumber (SetLocalValue place) = false
+takesNumber (UnifyVariable place) = true
+takesNumber (UnifyValue place) = true
+takesNumber (UnifyLocalValue place) = true
 
 -- ---- Refused as 2
 
--- a head step after a goal step or call: none follows one, so the last step tells
-unfoldable pub headTooLate : Order → Step → Bool
-headTooLate order step = eqb (kindOf step) headStep && leb goalStep (order .kind)
+-- whether a goal step or `call` stands before
+unfoldable pub pastHead : List Step → Bool
+pastHead [] = false
+pastHead (Head k v ∷ earlier) = pastHead earlier
+pastHead (HeadDeep v ∷ earlier) = pastHead earlier
+pastHead (Goal k v ∷ earlier) = true
+pastHead (GoalDeep v ∷ earlier) = true
+pastHead (Call ∷ earlier) = true
 
--- an instruction before any step
-abbrev pub beforeAnyStep : Order → Bool
-beforeAnyStep order = eqb (order .steps) 0
+-- whether k is an argument of this goal, which `call` ends
+unfoldable pub inGoal : ℕ → List Step → Bool
+inGoal k [] = false
+inGoal k (Head other v ∷ earlier) = inGoal k earlier
+inGoal k (HeadDeep v ∷ earlier) = inGoal k earlier
+inGoal k (Goal other v ∷ earlier) = inGoal k earlier || eqb k other
+inGoal k (GoalDeep v ∷ earlier) = inGoal k earlier
+inGoal k (Call ∷ earlier) = false
 
--- or under `call`
-abbrev pub underCall : ℕ → Bool
-underCall kind = eqb kind callStep
+-- a head step after a goal step or call; the same k twice in a goal
+abbrev pub stepOutOfOrder : List Step → Step → Bool
+stepOutOfOrder earlier (Head k v) = pastHead earlier
+stepOutOfOrder earlier (HeadDeep v) = pastHead earlier
+stepOutOfOrder earlier (Goal k v) = inGoal k earlier
+stepOutOfOrder earlier (GoalDeep v) = false
+stepOutOfOrder earlier Call = false
 
--- a head step with Put or Set
-abbrev pub putOrSetInHead : ℕ → ℕ → Bool
-putOrSetInHead kind number = eqb kind headStep && isPutOrSet number
+-- an instruction before any step or under `call`; a head step with Put or Set; a goal step with `get_value` or Unify
+abbrev pub misplaced : List Step → Instruction → Bool
+misplaced [] instruction = true
+misplaced (Call ∷ earlier) instruction = true
+misplaced (Head k v ∷ earlier) instruction = isPutOrSet instruction
+misplaced (HeadDeep v ∷ earlier) instruction = isPutOrSet instruction
+misplaced (Goal k v ∷ earlier) instruction = isGetValueOrUnify instruction
+misplaced (GoalDeep v ∷ earlier) instruction = isGetValueOrUnify instruction
 
--- a goal step with `get_value` or Unify
-abbrev pub getValueOrUnifyInGoal : ℕ → ℕ → Bool
-getValueOrUnifyInGoal kind number = eqb kind goalStep && isGetValueOrUnify number
+-- whether one of a step's instructions takes its number
+unfoldable pub numberTaken : List Instruction → Bool
+numberTaken [] = false
+numberTaken (instruction ∷ earlier) = numberTaken earlier || takesNumber instruction
 
--- two of `put_variable`, `set_variable` and Unify in one step
-abbrev pub numberTakenTwice : Order → ℕ → Bool
-numberTakenTwice order number = order .«number_taken» && takesNumber number
+-- or two of `put_variable`, `set_variable` and Unify in one step
+abbrev pub isOutOfOrder : List CheckLine → CheckLine → Bool
+isOutOfOrder earlier (Begins step) = stepOutOfOrder (stepsOf earlier) step
+isOutOfOrder earlier (Does instruction) =
+    misplaced (stepsOf earlier) instruction || (numberTaken (instructionsOf earlier) && takesNumber instruction)
 
--- the same k twice in a goal
-abbrev pub sameArgumentTwice : Order → Step → Bool
-sameArgumentTwice order (Head k v) = false
-sameArgumentTwice order (HeadDeep v) = false
-sameArgumentTwice order (Goal k v) = has (order .goal) k
-sameArgumentTwice order (GoalDeep v) = false
-sameArgumentTwice order Call = false
-
--- an instruction that no step of its kind may have
-unfoldable pub misplaced : ℕ → ℕ → Bool
-misplaced kind number = underCall kind || (putOrSetInHead kind number || getValueOrUnifyInGoal kind number)
-
-unfoldable pub instructionOutOfOrder : Order → Instruction → Bool
-instructionOutOfOrder order instruction =
-    beforeAnyStep order
-    || (misplaced (order .kind) (instructionNumber instruction) || numberTakenTwice order (instructionNumber instruction))
-
-abbrev pub isOutOfOrder : Order → CheckLine → Bool
-isOutOfOrder order (Begins step) = headTooLate order step || sameArgumentTwice order step
-isOutOfOrder order (Does instruction) = instructionOutOfOrder order instruction
+-- goal steps with no `call` after them, at the sheet's end
+unfoldable pub isUncalled : List Step → Bool
+isUncalled [] = false
+isUncalled (Head k v ∷ earlier) = isUncalled earlier
+isUncalled (HeadDeep v ∷ earlier) = isUncalled earlier
+isUncalled (Goal k v ∷ earlier) = true
+isUncalled (GoalDeep v ∷ earlier) = true
+isUncalled (Call ∷ earlier) = false
 
 -- ---- Refused as 3: every k is a register's number, v is 0..63
 
@@ -114,12 +143,18 @@ stepFits (Goal k v) = isRegister k && ltb v variables
 stepFits (GoalDeep v) = ltb v variables
 stepFits Call = true
 
--- instructions up to 4 have an argument k
-abbrev pub codeFits : Code → Bool
-codeFits code = if leb (code .number) 4 then placeFits (code .place) && isRegister (code .argument) else placeFits (code .place)
-
 abbrev pub instructionFits : Instruction → Bool
-instructionFits instruction = codeFits (codeOf instruction)
+instructionFits (GetVariable place k) = placeFits place && isRegister k
+instructionFits (GetValue place k) = placeFits place && isRegister k
+instructionFits (PutVariable place k) = placeFits place && isRegister k
+instructionFits (PutValue place k) = placeFits place && isRegister k
+instructionFits (PutUnsafeValue slot k) = isRegister slot && isRegister k
+instructionFits (SetVariable place) = placeFits place
+instructionFits (SetValue place) = placeFits place
+instructionFits (SetLocalValue place) = placeFits place
+instructionFits (UnifyVariable place) = placeFits place
+instructionFits (UnifyValue place) = placeFits place
+instructionFits (UnifyLocalValue place) = placeFits place
 
 abbrev pub fits : CheckLine → Bool
 fits (Begins step) = stepFits step
@@ -127,65 +162,17 @@ fits (Does instruction) = instructionFits instruction
 
 -- ---- Refused as 7: 256 step lines, `call` counted, 4 instructions a step
 
-abbrev pub isFull : Order → CheckLine → Bool
-isFull order (Begins step) = leb steps (order .steps)
-isFull order (Does instruction) = leb instructions (order .instructions)
+abbrev pub isFull : List CheckLine → CheckLine → Bool
+isFull earlier (Begins step) = leb steps (length (stepsOf earlier))
+isFull earlier (Does instruction) = leb instructions (length (instructionsOf earlier))
 
 -- ---- 2, 3, then 7
 
-unfoldable pub refusalOf : Order → CheckLine → ℕ
-refusalOf order line =
-    if isOutOfOrder order line
+abbrev pub firstOf : Bool → Bool → Bool → ℕ
+firstOf outOfOrder inSize full =
+    if outOfOrder
     then refusedOrder
-    else if not (fits line) then refusedSize else if isFull order line then refusedFull else accepted
+    else if not inSize then refusedSize else if full then refusedFull else accepted
 
--- ---- What the lines say of the next one
-
-abbrev pub freshOrder : Order
-freshOrder = record { steps = 0; kind = noStep; instructions = 0; «number_taken» = false; goal = emptySet }
-
--- the goal runs since the last `call`
-abbrev pub goalAfter : ℕ → Step → ℕ
-goalAfter goal (Head k v) = goal
-goalAfter goal (HeadDeep v) = goal
-goalAfter goal (Goal k v) = inserted goal k
-goalAfter goal (GoalDeep v) = goal
-goalAfter goal Call = emptySet
-
-abbrev pub begun : Order → Step → Order
-begun order step =
-    record {
-      steps = order .steps + 1;
-      kind = kindOf step;
-      instructions = 0;
-      «number_taken» = false;
-      goal = goalAfter (order .goal) step;
-    }
-
-abbrev pub done : Order → Instruction → Order
-done order instruction =
-    record {
-      steps = order .steps;
-      kind = order .kind;
-      instructions = order .instructions + 1;
-      «number_taken» = order .«number_taken» || takesNumber (instructionNumber instruction);
-      goal = order .goal;
-    }
-
-abbrev pub following : Order → CheckLine → Order
-following order (Begins step) = begun order step
-following order (Does instruction) = done order instruction
-
-abbrev pub withRefusal : Order → ℕ → Judged
-withRefusal order refusal = record { order = order; refusal = refusal }
-
--- a line that is refused leaves the order as it is
-unfoldable pub judgedAs : Order → CheckLine → ℕ → Judged
-judgedAs order line refusal = withRefusal (if eqb refusal accepted then following order line else order) refusal
-
-unfoldable pub judged : Order → CheckLine → Judged
-judged order line = judgedAs order line (refusalOf order line)
-
--- goal steps with no `call` after them: the last step is one
-unfoldable pub refusalAtEnd : Order → ℕ
-refusalAtEnd order = if eqb (order .kind) goalStep then refusedOrder else accepted
+unfoldable pub refusalOf : List CheckLine → CheckLine → ℕ
+refusalOf earlier line = firstOf (isOutOfOrder earlier line) (fits line) (isFull earlier line)

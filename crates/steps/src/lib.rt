@@ -1,24 +1,24 @@
 // A line of a check sheet, and what refuses it: the lines before it, its numbers, and what is full.
 ghost use Prim.Native.Nat.{_<_};
 ghost use mathlib.Core.Path.{_≡_};
-ghost use mathlib.Core.Bool.{false, _||_};
-ghost use Rattle.sizes.specs.Sizes.{steps as stepLines, instructions as stepInstructions};
+ghost use mathlib.Core.Bool.{false, _&&_, _||_};
+ghost use Rattle.sizes.specs.Sizes.{steps as stepLines, instructions as stepInstructions, isRegister};
 ghost use Rattle.steps.specs.Steps.{
-  kindOf,
   isPutOrSet,
   isGetValueOrUnify,
   takesNumber,
-  headTooLate,
-  sameArgumentTwice,
-  misplaced,
-  instructionOutOfOrder,
-  isOutOfOrder,
   placeFits,
   stepFits,
   instructionFits,
   fits,
-  isFull,
-  refusalOf,
+};
+ghost use Rattle.steps.specs.Order.{
+  kindOf,
+  stepBreaks,
+  misplacedUnder,
+  breaksOrder,
+  overfills,
+  refusalBy,
   freshOrder,
   goalAfter,
   begun,
@@ -113,98 +113,97 @@ fn kind_of(step: Step) -> u32
     }
 }
 
-// Whether an instruction's number is that of a Put or a Set.
-fn is_put_or_set(number: u32) -> bool
-    ensures { λ r. ⌜ r ≡ isPutOrSet number ⌝ }
+// Whether an instruction is a Put or a Set.
+fn is_put_or_set(instruction: Instruction) -> bool
+    ensures { λ r. ⌜ r ≡ isPutOrSet instruction ⌝ }
 {
-    match number {
-        0..=1 => false,
-        2..=7 => true,
-        8.. => false,
+    match instruction {
+        Instruction::GetVariable(_, _) => false,
+        Instruction::GetValue(_, _) => false,
+        Instruction::PutVariable(_, _) => true,
+        Instruction::PutValue(_, _) => true,
+        Instruction::PutUnsafeValue(_, _) => true,
+        Instruction::SetVariable(_) => true,
+        Instruction::SetValue(_) => true,
+        Instruction::SetLocalValue(_) => true,
+        Instruction::UnifyVariable(_) => false,
+        Instruction::UnifyValue(_) => false,
+        Instruction::UnifyLocalValue(_) => false,
     }
 }
 
-// Whether it is that of `get_value` or a Unify.
-fn is_get_value_or_unify(number: u32) -> bool
-    ensures { λ r. ⌜ r ≡ isGetValueOrUnify number ⌝ }
+// Whether it is `get_value` or a Unify.
+fn is_get_value_or_unify(instruction: Instruction) -> bool
+    ensures { λ r. ⌜ r ≡ isGetValueOrUnify instruction ⌝ }
 {
-    match number {
-        0 => false,
-        1 => true,
-        2..=7 => false,
-        8.. => true,
+    match instruction {
+        Instruction::GetVariable(_, _) => false,
+        Instruction::GetValue(_, _) => true,
+        Instruction::PutVariable(_, _) => false,
+        Instruction::PutValue(_, _) => false,
+        Instruction::PutUnsafeValue(_, _) => false,
+        Instruction::SetVariable(_) => false,
+        Instruction::SetValue(_) => false,
+        Instruction::SetLocalValue(_) => false,
+        Instruction::UnifyVariable(_) => true,
+        Instruction::UnifyValue(_) => true,
+        Instruction::UnifyLocalValue(_) => true,
     }
 }
 
-// Whether it is that of `put_variable`, `set_variable` or a Unify: these take the step's number.
-fn takes_number(number: u32) -> bool
-    ensures { λ r. ⌜ r ≡ takesNumber number ⌝ }
+// Whether it is `put_variable`, `set_variable` or a Unify: these take the step's number.
+fn takes_number(instruction: Instruction) -> bool
+    ensures { λ r. ⌜ r ≡ takesNumber instruction ⌝ }
 {
-    match number {
-        2 => true,
-        5 => true,
-        8.. => true,
-        _ => false,
+    match instruction {
+        Instruction::GetVariable(_, _) => false,
+        Instruction::GetValue(_, _) => false,
+        Instruction::PutVariable(_, _) => true,
+        Instruction::PutValue(_, _) => false,
+        Instruction::PutUnsafeValue(_, _) => false,
+        Instruction::SetVariable(_) => true,
+        Instruction::SetValue(_) => false,
+        Instruction::SetLocalValue(_) => false,
+        Instruction::UnifyVariable(_) => true,
+        Instruction::UnifyValue(_) => true,
+        Instruction::UnifyLocalValue(_) => true,
     }
 }
 
-// Whether a head step comes after a goal step or a call.
-fn head_too_late(order: Order, step: Step) -> bool
-    ensures { λ r. ⌜ r ≡ headTooLate order step ⌝ }
-{
-    sizes::both(kind_of(step) == HEAD_STEP, GOAL_STEP <= order.kind)
-}
-
-// Whether a goal step has an argument that the goal has already.
-fn same_argument_twice(order: Order, step: Step) -> bool
-    ensures { λ r. ⌜ r ≡ sameArgumentTwice order step ⌝ }
+// Whether a step is out of order: a head step after a goal step or a call, or an argument that the goal has already.
+fn step_breaks(order: Order, step: Step) -> bool
+    ensures { λ r. ⌜ r ≡ stepBreaks order step ⌝ }
 {
     match step {
+        Step::Head(_, _) => GOAL_STEP <= order.kind,
+        Step::HeadDeep(_) => GOAL_STEP <= order.kind,
         Step::Goal(k, _) => bit_set::contains(order.goal, k),
-        Step::Head(_, _) => false,
-        Step::HeadDeep(_) => false,
         Step::GoalDeep(_) => false,
         Step::Call => false,
     }
 }
 
 // Whether an instruction may not stand under a step of a kind.
-fn is_misplaced(kind: u32, number: u32) -> bool
-    ensures { λ r. ⌜ r ≡ misplaced kind number ⌝ }
+fn is_misplaced(kind: u32, instruction: Instruction) -> bool
+    ensures { λ r. ⌜ r ≡ misplacedUnder kind instruction ⌝ }
 {
     match kind {
-        HEAD_STEP => is_put_or_set(number),
-        GOAL_STEP => is_get_value_or_unify(number),
-        CALL_STEP => true,
-        _ => false,
+        HEAD_STEP => is_put_or_set(instruction),
+        GOAL_STEP => is_get_value_or_unify(instruction),
+        _ => true,
     }
-}
-
-// Whether an instruction is out of order.
-fn is_instruction_out_of_order(order: Order, instruction: Instruction) -> bool
-    ensures { λ r. ⌜ r ≡ instructionOutOfOrder order instruction ⌝ }
-{
-    let code = instructions::code_of(instruction);
-    let number = code.number;
-    if order.steps == 0 {
-        return true;
-    }
-    if is_misplaced(order.kind, number) {
-        return true;
-    }
-    sizes::both(order.number_taken, takes_number(number))
 }
 
 // Whether a line is out of order.
-fn is_out_of_order(order: Order, line: CheckLine) -> bool
-    ensures { λ r. ⌜ r ≡ isOutOfOrder order line ⌝ }
+fn breaks_order(order: Order, line: CheckLine) -> bool
+    ensures { λ r. ⌜ r ≡ breaksOrder order line ⌝ }
 {
     match line {
-        CheckLine::Begins(step) => either(
-            head_too_late(order, step),
-            same_argument_twice(order, step),
+        CheckLine::Begins(step) => step_breaks(order, step),
+        CheckLine::Does(instruction) => either(
+            is_misplaced(order.kind, instruction),
+            sizes::both(order.number_taken, takes_number(instruction)),
         ),
-        CheckLine::Does(instruction) => is_instruction_out_of_order(order, instruction),
     }
 }
 
@@ -233,16 +232,32 @@ fn step_fits(step: Step) -> bool
     }
 }
 
+// Whether a place and an argument are inside their sizes.
+fn place_and_argument_fit(place: RegType, k: u32) -> bool
+    ensures { λ r. ⌜ r ≡ (placeFits place && isRegister k) ⌝ }
+{
+    sizes::both(place_fits(place), sizes::is_register(k))
+}
+
 // Whether every number of an instruction is inside its size.
 fn instruction_fits(instruction: Instruction) -> bool
     ensures { λ r. ⌜ r ≡ instructionFits instruction ⌝ }
 {
-    let code = instructions::code_of(instruction);
-    let number = code.number;
-    let place = code.place;
-    match number {
-        0..=4 => sizes::both(place_fits(place), sizes::is_register(code.argument)),
-        5.. => place_fits(place),
+    match instruction {
+        Instruction::GetVariable(place, k) => place_and_argument_fit(place, k),
+        Instruction::GetValue(place, k) => place_and_argument_fit(place, k),
+        Instruction::PutVariable(place, k) => place_and_argument_fit(place, k),
+        Instruction::PutValue(place, k) => place_and_argument_fit(place, k),
+        Instruction::PutUnsafeValue(slot, k) => sizes::both(
+            sizes::is_register(slot),
+            sizes::is_register(k),
+        ),
+        Instruction::SetVariable(place) => place_fits(place),
+        Instruction::SetValue(place) => place_fits(place),
+        Instruction::SetLocalValue(place) => place_fits(place),
+        Instruction::UnifyVariable(place) => place_fits(place),
+        Instruction::UnifyValue(place) => place_fits(place),
+        Instruction::UnifyLocalValue(place) => place_fits(place),
     }
 }
 
@@ -259,8 +274,8 @@ fn fits(line: CheckLine) -> bool
 // ---- Judgement
 
 // Whether a line is one step line too many, or one instruction of its step.
-fn is_full(order: Order, line: CheckLine) -> bool
-    ensures { λ r. ⌜ r ≡ isFull order line ⌝ }
+fn overfills(order: Order, line: CheckLine) -> bool
+    ensures { λ r. ⌜ r ≡ overfills order line ⌝ }
 {
     match line {
         CheckLine::Begins(_) => STEPS as u32 <= order.steps,
@@ -269,14 +284,14 @@ fn is_full(order: Order, line: CheckLine) -> bool
 }
 
 // The refusal of a line: by its order, then by its sizes, then by what is full.
-fn refusal_of(order: Order, line: CheckLine) -> u32
-    ensures { λ r. ⌜ r ≡ refusalOf order line ⌝ }
+fn refusal_by(order: Order, line: CheckLine) -> u32
+    ensures { λ r. ⌜ r ≡ refusalBy order line ⌝ }
 {
-    match is_out_of_order(order, line) {
+    match breaks_order(order, line) {
         true => refusals::ORDER,
         false => match fits(line) {
             false => refusals::SIZE,
-            true => match is_full(order, line) {
+            true => match overfills(order, line) {
                 true => refusals::FULL,
                 false => refusals::ACCEPTED,
             },
@@ -316,12 +331,11 @@ fn done(order: Order, instruction: Instruction) -> Order
     requires { ⌜ order .instructions < stepInstructions ⌝ }
     ensures { λ r. ⌜ r ≡ done order instruction ⌝ }
 {
-    let code = instructions::code_of(instruction);
     Order {
         steps: order.steps,
         kind: order.kind,
         instructions: order.instructions + 1,
-        number_taken: either(order.number_taken, takes_number(code.number)),
+        number_taken: either(order.number_taken, takes_number(instruction)),
         goal: order.goal,
     }
 }
@@ -335,7 +349,7 @@ fn with_refusal(order: Order, refusal: u32) -> Judged
 
 // The order with a line that is accepted.
 fn following(order: Order, line: CheckLine) -> Order
-    requires { ⌜ isFull order line ≡ false ⌝ }
+    requires { ⌜ overfills order line ≡ false ⌝ }
     ensures { λ r. ⌜ r ≡ following order line ⌝ }
 {
     match line {
@@ -348,7 +362,7 @@ fn following(order: Order, line: CheckLine) -> Order
 pub fn judge(order: Order, line: CheckLine) -> Judged
     ensures { λ r. ⌜ r ≡ judged order line ⌝ }
 {
-    let refusal = refusal_of(order, line);
+    let refusal = refusal_by(order, line);
     match refusal {
         refusals::ACCEPTED => with_refusal(following(order, line), refusal),
         _ => with_refusal(order, refusal),

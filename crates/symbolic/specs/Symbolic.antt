@@ -19,7 +19,7 @@ use Rattle.steps.specs.declared.CheckLine.{CheckLine}
 use Rattle.steps.specs.declared.CheckLine.the-variants.{Begins, Does}
 use Rattle.steps.specs.declared.Order.{Order}
 use Rattle.steps.specs.declared.Judged.{Judged}
-use Rattle.steps.specs.Steps.{judged}
+use Rattle.steps.specs.Order.{judged}
 use Rattle.classes.specs.Classes.{pairsOf}
 use Rattle.symbolic.specs.Names.{placeName, stepName, placeCells, noName, pairCells}
 

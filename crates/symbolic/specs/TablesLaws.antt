@@ -20,8 +20,9 @@ use Rattle.steps.specs.declared.CheckLine.{CheckLine}
 use Rattle.steps.specs.declared.CheckLine.the-variants.{Begins}
 use Rattle.steps.specs.declared.Order.{Order}
 use Rattle.steps.specs.declared.Judged.{Judged}
-use Rattle.steps.specs.Steps.{stepFits, fits, judged}
-use Rattle.steps.specs.StepsLaws.{argument-and-variable, line-fits, steps-kept}
+use Rattle.steps.specs.Steps.{stepFits, fits}
+use Rattle.steps.specs.Order.{judged}
+use Rattle.steps.specs.OrderLaws.{argument-and-variable, line-fits, steps-kept}
 use Rattle.classes.specs.Classes.{pairsOf}
 use Rattle.classes.specs.ClassesLaws.{pairs-next, pairs-end}
 use Rattle.symbolic.specs.Names.{placeCells, pairCells, noName}

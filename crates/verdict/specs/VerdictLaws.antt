@@ -11,7 +11,7 @@ use Rattle.classes.specs.Classes.{inNames, labelOf, labelling, allSame}
 use Rattle.classes.specs.Forces.{Holds}
 use Rattle.classes.specs.ForcesLaws.{labels-hold, labels-force, all-same-forced, forced-all-same}
 use Rattle.steps.specs.declared.CheckLine.{CheckLine}
-use Rattle.steps.specs.Steps.{freshOrder}
+use Rattle.steps.specs.Order.{freshOrder}
 use Rattle.machine.specs.Right.{Right}
 use Rattle.symbolic.specs.Symbolic.{Symbols, listed, allAccepted}
 use Rattle.on_names.specs.OnNames.{symbolsOf, named, RightOnNames}

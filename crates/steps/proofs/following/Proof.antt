@@ -3,7 +3,7 @@ use mathlib.Core.Path.{sym, ap, _∙_}
 use borrow.Author.Tests.{leb-false}
 use borrow.Author.Needs.{needs}
 use Rattle.sizes.specs.Sizes.{steps, instructions}
-use Rattle.steps.specs.Steps.{isFull}
+use Rattle.steps.specs.Order.{overfills}
 use Rattle.steps.proofs.following.Statement.{statement}
 use Rattle.steps.proofs.following.Tie as tie
 
@@ -13,7 +13,7 @@ enum-known-line c = search needs
 begun-requires : tie.Need-begun-requires
 begun-requires c κs =
     let a = c .before .before .before .args in
-    leb-false steps (a .order .steps) (sym (ap (isFull (a .order)) (c .before .line .given .1)) ∙ c .before .before .before .pre)
+    leb-false steps (a .order .steps) (sym (ap (overfills (a .order)) (c .before .line .given .1)) ∙ c .before .before .before .pre)
 
 enum-known-line-2 : tie.Need-enum-known-line-2
 enum-known-line-2 c = search needs
@@ -21,7 +21,7 @@ enum-known-line-2 c = search needs
 done-requires : tie.Need-done-requires
 done-requires c κs =
     let a = c .before .before .before .args in
-    leb-false instructions (a .order .instructions) (sym (ap (isFull (a .order)) (c .before .line2 .given .1)) ∙ c .before .before .before .pre)
+    leb-false instructions (a .order .instructions) (sym (ap (overfills (a .order)) (c .before .line2 .given .1)) ∙ c .before .before .before .pre)
 
 returns : tie.Need-returns
 returns c = simp (c .before .before .line .given .1, c .begun .ensures)

@@ -1,6 +1,6 @@
 -- `steps::refusal_at_end`: each way of the code is a case of the definition. Assumes nothing.
 use borrow.Author.Tests.{ne-eqb}
-use Rattle.steps.specs.Steps.{refusalAtEnd}
+use Rattle.steps.specs.Order.{refusalAtEnd}
 use Rattle.steps.proofs.refusal_at_end.Statement.{statement}
 use Rattle.steps.proofs.refusal_at_end.Tie as tie
 

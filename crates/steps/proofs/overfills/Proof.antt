@@ -1,7 +1,7 @@
--- `steps::is_full`: each way of the code is a case of the definition. Assumes nothing.
+-- `steps::overfills`: each way of the code is a case of the definition. Assumes nothing.
 use borrow.Author.Needs.{needs}
-use Rattle.steps.proofs.is_full.Statement.{statement}
-use Rattle.steps.proofs.is_full.Tie as tie
+use Rattle.steps.proofs.overfills.Statement.{statement}
+use Rattle.steps.proofs.overfills.Tie as tie
 
 enum-told : tie.Need-enum-told
 enum-told c = search needs
@@ -21,6 +21,6 @@ returns c = simp (c .before .enum-told .given .1)
 returns-2 : tie.Need-returns-2
 returns-2 c = simp (c .before .enum-told2 .given .1)
 
-pub is-full-spec : {M : Type 1} → statement M
-is-full-spec =
+pub overfills-spec : {M : Type 1} → statement M
+overfills-spec =
     tie.close (tie.spec enum-told cast-result enum-told-2 cast-result-2 returns returns-2)

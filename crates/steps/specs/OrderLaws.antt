@@ -1,0 +1,91 @@
+-- Laws of judged lines: what an accepted line has passed, and what the order says after it.
+use Prim.Native.Nat.{ℕ, _+_, _≤_, _<_}
+use mathlib.Core.Path.{_≡_, refl, ap}
+use mathlib.Core.Bool.{Bool, true, false, _&&_}
+use native.Mathlib.Omega.{arith}
+use lib.Dec.{eqb, ltb}
+use borrow.Author.Tests.{leb-false, ltb-true, eqb-true, eq-eqb, ne-eqb}
+use Rattle.notation.specs.Choice.{if_then_else_}
+use Rattle.notation.specs.ChoiceLaws.{both-true}
+use Rattle.refusals.specs.Refusals.{accepted, refusedFull}
+use Rattle.sizes.specs.Sizes.{registers, variables, steps, instructions, isRegister}
+use Rattle.sizes.specs.SizesLaws.{register-exactly}
+use Rattle.instructions.specs.declared.Instruction.{Instruction}
+use Rattle.steps.specs.declared.Step.{Step}
+use Rattle.steps.specs.declared.CheckLine.{CheckLine}
+use Rattle.steps.specs.declared.CheckLine.the-variants.{Begins, Does}
+use Rattle.steps.specs.declared.Order.{Order}
+use Rattle.steps.specs.Steps.{fits, firstOf}
+use Rattle.steps.specs.Order.{breaksOrder, overfills, refusalBy, following, judgedAs, judged}
+
+-- ---- What an accepted line has passed
+
+pub none-refuses :
+    (outOfOrder inSize full : Bool) → firstOf outOfOrder inSize full ≡ accepted
+    → (outOfOrder ≡ false) × (inSize ≡ true) × (full ≡ false)
+none-refuses true inSize full h = absurd (omega arith)
+none-refuses false true true h = absurd (omega arith)
+none-refuses false true false h = (refl, refl, refl)
+none-refuses false false full h = absurd (omega arith)
+
+some-refusal : (outOfOrder inSize full : Bool) → firstOf outOfOrder inSize full ≤ refusedFull
+some-refusal true inSize full = omega arith
+some-refusal false true true = omega arith
+some-refusal false true false = omega arith
+some-refusal false false full = omega arith
+
+module _ (order : Order) (line : CheckLine) where
+  pub judged-refusal : judged order line .refusal ≡ refusalBy order line
+  unfolding judged judgedAs
+  judged-refusal = refl
+
+  pub refusal-le : judged order line .refusal ≤ refusedFull
+  unfolding judged judgedAs refusalBy
+  refusal-le = some-refusal (breaksOrder order line) (fits line) (overfills order line)
+
+module _ (order : Order) (line : CheckLine) (good : judged order line .refusal ≡ accepted) where
+  passed : (breaksOrder order line ≡ false) × (fits line ≡ true) × (overfills order line ≡ false)
+  unfolding judged judgedAs refusalBy
+  passed = none-refuses (breaksOrder order line) (fits line) (overfills order line) good
+
+  pub line-fits : fits line ≡ true
+  line-fits = passed .1
+
+  pub line-has-room : overfills order line ≡ false
+  line-has-room = passed .2
+
+  pub accepted-order : judged order line .order ≡ following order line
+  unfolding judged judgedAs
+  accepted-order = simp (eq-eqb (refusalBy order line) accepted good)
+
+-- ---- 256 step lines, 4 instructions a step
+
+pub begins-few : (order : Order) (step : Step) → judged order (Begins step) .refusal ≡ accepted → order .steps < steps
+begins-few order step good = leb-false steps (order .steps) (line-has-room order (Begins step) good)
+
+pub does-few :
+    (order : Order) (instruction : Instruction) → judged order (Does instruction) .refusal ≡ accepted
+    → order .instructions < instructions
+does-few order instruction good = leb-false instructions (order .instructions) (line-has-room order (Does instruction) good)
+
+following-few :
+    (order : Order) (line : CheckLine) → judged order line .refusal ≡ accepted → order .steps ≤ steps → following order line .steps ≤ steps
+following-few order (Begins step) good h = omega (arith, begins-few order step good)
+following-few order (Does instruction) good h = h
+
+pub steps-kept : (order : Order) (line : CheckLine) → order .steps ≤ steps → judged order line .order .steps ≤ steps
+unfolding judged judgedAs
+steps-kept order line h =
+    elim (eqb (refusalBy order line) accepted) as
+    (λ t. eqb (refusalBy order line) accepted ≡ t → (if t then following order line else order) .steps ≤ steps)
+    [ true ↦ λ e. following-few order line (eqb-true (refusalBy order line) accepted e) h | false ↦ λ e. h ]
+    refl
+
+-- ---- The sizes as plain facts
+
+pub argument-and-variable :
+    (k v : ℕ) → (isRegister k && ltb v variables) ≡ true → (1 ≤ k) × (k ≤ registers) × (v < variables)
+argument-and-variable k v h =
+    let b = both-true (isRegister k) (ltb v variables) h in
+    let r = register-exactly k .0 (b .0) in
+    (r .0, r .1, ltb-true v variables (b .1))
