@@ -12,17 +12,13 @@ use Rattle.notation.specs.Text.{bytes}
 use Rattle.refusals.specs.Refusals.{refusedFull, refusedRoom}
 use Rattle.sizes.specs.Sizes.{sheetBytes}
 use Rattle.printing.specs.Printing.{printed, placeAfter, Put}
-use Rattle.steps.specs.declared.CheckLine.{CheckLine}
-use Rattle.steps.specs.Steps.{freshOrder}
-use Rattle.symbolic.specs.Symbolic.{freshSymbols, carriedAll}
-use Rattle.verdict.specs.Verdict.{decided}
 use Rattle.answered.specs.declared.Answered.{Answered}
 use Rattle.answered.specs.declared.Answered.the-variants.{Written, Refused}
 use Rattle.answered.specs.Answered.{filledBy}
 use Rattle.check_sheets.specs.declared.Run.{Run}
 use Rattle.check_sheets.specs.declared.Run.the-variants.{Refused as Bad, Decided}
-use Rattle.check_sheets.specs.CheckSheets.{Reading, bad, reads, wordOf, roomed, verdict, textOf, answeredBy, reading, answered, filled}
-use Rattle.check_sheets.specs.Running.{runFrom, runOf}
+use Rattle.check_sheets.specs.CheckSheets.{Reading, bad, reads, wordOf, roomed, answeredBy, reading, answered, filled}
+use Rattle.check_sheets.specs.Running.{verdict, verdictOf, runOf}
 
 -- ---- The word
 
@@ -61,23 +57,23 @@ module _ (right : Bool) (out : List ℕ) where
   word-written h put =
       (ap (λ (n : ℕ). Written n) (place h put) ∙ room h, text h put ∙ ap (λ a. filledBy a (wordOf right) out) (room h))
 
--- ---- The answer
+-- ---- The answer, by any verdict
 
-module _ (sheet out : List ℕ) where
-  pub sheet-full :
-      sheetBytes < length sheet → (Refused 0 refusedFull ≡ answered sheet (length out)) × (out ≡ filled sheet out)
+module _ (right : Bool) (sheet out : List ℕ) where
+  -- the answer and the lent bytes
+  abbrev pub Answers : Answered → List ℕ → Type 0
+  Answers a after = (a ≡ answered right sheet (length out)) × (after ≡ filled right sheet out)
+
+  pub sheet-full : sheetBytes < length sheet → Answers (Refused 0 refusedFull) out
   unfolding answered filled
   sheet-full h = (simp (lt-ltb _ _ h), simp (lt-ltb _ _ h))
 
-  read-answered : length sheet ≤ sheetBytes → answered sheet (length out) ≡ answeredBy (reading sheet) (length out)
-  unfolding answered
-  read-answered h = simp (le-ltb _ _ h)
-
-  read-filled :
-      length sheet ≤ sheetBytes
-      → filled sheet out ≡ filledBy (answeredBy (reading sheet) (length out)) (textOf (reading sheet)) out
-  unfolding filled
-  read-filled h = ap (λ a. filledBy a (textOf (reading sheet)) out) (read-answered h)
+  read-answers :
+      length sheet ≤ sheetBytes → {a : Answered} {after : List ℕ}
+      → (a ≡ answeredBy right (reading sheet) (length out)) × (after ≡ filledBy (answeredBy right (reading sheet) (length out)) (wordOf right) out)
+      → Answers a after
+  unfolding answered filled
+  read-answers h by = simp (le-ltb _ _ h) by
 
 -- ---- What the run told
 
@@ -95,14 +91,15 @@ isBad (Decided right) = false
 
 bad-told :
     (r : Reading) (out : List ℕ) {line refusal : ℕ} → Bad line refusal ≡ runOf r
-    → (Refused line refusal ≡ answeredBy r (length out)) × (out ≡ filledBy (answeredBy r (length out)) (textOf r) out)
+    → (Refused line refusal ≡ answeredBy (verdictOf r) r (length out))
+    × (out ≡ filledBy (answeredBy (verdictOf r) r (length out)) (wordOf (verdictOf r)) out)
 bad-told (bad number refusal) out e = (ap refusedBy e, refl)
 bad-told (reads lines) out e = absurd (false≢true (sym (ap isBad e)))
 
 judged-told :
     (r : Reading) (out : List ℕ) {right : Bool} → Decided right ≡ runOf r
-    → (roomed right (length out) ≡ answeredBy r (length out))
-    × (filledBy (roomed right (length out)) (wordOf right) out ≡ filledBy (answeredBy r (length out)) (textOf r) out)
+    → (roomed right (length out) ≡ answeredBy (verdictOf r) r (length out))
+    × (filledBy (roomed right (length out)) (wordOf right) out ≡ filledBy (answeredBy (verdictOf r) r (length out)) (wordOf (verdictOf r)) out)
 unfolding verdict
 judged-told (bad number refusal) out e = absurd (false≢true (ap isBad e))
 judged-told (reads lines) out e =
@@ -111,26 +108,14 @@ judged-told (reads lines) out e =
 
 module _ (sheet out : List ℕ) (short : length sheet ≤ sheetBytes) {run : Run} (e : run ≡ runOf (reading sheet)) where
   pub sheet-refused :
-      {line refusal : ℕ} → run ≡ Bad line refusal
-      → (Refused line refusal ≡ answered sheet (length out)) × (out ≡ filled sheet out)
-  sheet-refused told =
-      let w = bad-told (reading sheet) out (sym told ∙ e) in
-      (w .0 ∙ sym (read-answered sheet out short), w .1 ∙ sym (read-filled sheet out short))
+      {line refusal : ℕ} → run ≡ Bad line refusal → Answers (verdictOf (reading sheet)) sheet out (Refused line refusal) out
+  sheet-refused told = read-answers (verdictOf (reading sheet)) sheet out short (bad-told (reading sheet) out (sym told ∙ e))
 
   pub sheet-judged :
       {right : Bool} {a : Answered} {after : List ℕ} → run ≡ Decided right
       → a ≡ roomed right (length out)
       → after ≡ filledBy (roomed right (length out)) (wordOf right) out
-      → (a ≡ answered sheet (length out)) × (after ≡ filled sheet out)
+      → Answers (verdictOf (reading sheet)) sheet out a after
   sheet-judged told answers fills =
       let w = judged-told (reading sheet) out (sym told ∙ e) in
-      (answers ∙ w .0 ∙ sym (read-answered sheet out short), fills ∙ w .1 ∙ sym (read-filled sheet out short))
-
--- a sheet that is read is answered with its verdict's word, where there is room for it
-pub verdict-filled :
-    (sheet out : List ℕ) → length sheet ≤ sheetBytes → (lines : List CheckLine) → reading sheet ≡ reads lines → 9 ≤ length out
-    → filled sheet out ≡ wordOf (verdict lines) ++ drop 9 out
-verdict-filled sheet out short lines e space =
-    read-filled sheet out short
-    ∙ ap (λ r. filledBy (answeredBy r (length out)) (textOf r) out) e
-    ∙ ap (λ a. filledBy a (wordOf (verdict lines)) out) (sym (room (verdict lines) out space))
+      read-answers (verdictOf (reading sheet)) sheet out short (answers ∙ w .0, fills ∙ w .1)

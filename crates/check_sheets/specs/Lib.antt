@@ -1,7 +1,6 @@
 pub mod CheckSheets
-pub mod Judging
 pub mod Running
 pub mod RunningLaws
+pub mod TellsLaws
 pub mod AnswerLaws
-pub mod JudgingLaws
 pub mod CheckSheetsLaws

@@ -1,7 +1,7 @@
 -- One run over the lines of a check sheet: how far a line comes, what the run tells, and what holds between two lines.
 use Prim.Native.Nat.{ℕ, _+_, _-_, _≤_}
 use mathlib.Core.Path.{_≡_}
-use mathlib.Core.Bool.{Bool}
+use mathlib.Core.Bool.{Bool, false}
 use mathlib.Core.List.{List}
 use lib.Dec.{ltb}
 use lib.ListN.{length}
@@ -10,7 +10,9 @@ use Rattle.refusals.specs.Refusals.{refusedForm}
 use Rattle.sizes.specs.Sizes.{steps}
 use Rattle.split.specs.Split.{lineFeed, before, split}
 use Rattle.steps.specs.declared.Order.{Order}
-use Rattle.steps.specs.Steps.{freshOrder, refusalAtEnd}
+use Rattle.steps.specs.declared.CheckLine.{CheckLine}
+use Rattle.steps.specs.Order.{freshOrder, refusalAtEnd}
+use Rattle.steps.specs.SumsLaws.{Sums}
 use Rattle.check_lines.specs.declared.Line.{Line}
 use Rattle.check_lines.specs.declared.Line.the-variants.{Malformed, Says}
 use Rattle.check_lines.specs.CheckLines.{lineSays}
@@ -19,6 +21,14 @@ use Rattle.verdict.specs.Verdict.{decided}
 use Rattle.check_sheets.specs.declared.Run.{Run}
 use Rattle.check_sheets.specs.declared.Run.the-variants.{Refused, Decided}
 use Rattle.check_sheets.specs.CheckSheets.{Reading, bad, reads, readFrom, reading}
+
+-- the verdict on lines, by the run on names
+unfoldable pub verdict : List CheckLine → Bool
+verdict lines = decided (carriedAll freshOrder freshSymbols lines)
+
+abbrev pub verdictOf : Reading → Bool
+verdictOf (bad number refusal) = false
+verdictOf (reads lines) = verdict lines
 
 -- how far a line comes
 abbrev pub saidTaken : Order → Symbols → Line → Taking
@@ -45,7 +55,9 @@ lastRun order number left right =
 
 -- between two lines: what is left of the sheet, run from here on, makes the run of the whole sheet
 pub record Going (sheet : List ℕ) (order : Order) (s : Symbols) (rest : List ℕ) (end number : ℕ) : Type 0 where
-  pub tells : runFrom order s (readFrom order number (split lineFeed rest)) ≡ runOf (reading sheet)
+  pub earlier : List CheckLine
+  pub sums : Sums order earlier
+  pub tells : runFrom order s (readFrom earlier number (split lineFeed rest)) ≡ runOf (reading sheet)
   pub ends : end ≡ length (before lineFeed rest)
   pub lines : number + length rest ≤ length sheet + 1
   pub few : order .steps ≤ steps

@@ -9,7 +9,7 @@ use lib.Dec.{ltb}
 use lib.ListN.{length, take, drop, replicate}
 use borrow.Author.Tests.{lt-ltb, le-ltb, ltb-false}
 use Rattle.notation.specs.Choice.{if_then_else_}
-use Rattle.refusals.specs.Refusals.{accepted, refusedForm}
+use Rattle.refusals.specs.Refusals.{accepted, refusedForm, refusedOrder}
 use Rattle.notation.specs.Lists.{numbersFrom}
 use Rattle.sizes.specs.Sizes.{steps, variables}
 use Rattle.split.specs.Split.{lineFeed, before, after, split}
@@ -17,8 +17,10 @@ use Rattle.split.specs.SplitLaws.{split-more, split-some, split-last, take-befo
 use Rattle.steps.specs.declared.CheckLine.{CheckLine}
 use Rattle.steps.specs.declared.Order.{Order}
 use Rattle.steps.specs.declared.Judged.{Judged}
-use Rattle.steps.specs.Steps.{freshOrder, judged, refusalAtEnd}
-use Rattle.steps.specs.StepsLaws.{steps-kept}
+use Rattle.steps.specs.Steps.{stepsOf, isUncalled, refusalOf}
+use Rattle.steps.specs.Order.{freshOrder, judged, refusalAtEnd}
+use Rattle.steps.specs.OrderLaws.{steps-kept}
+use Rattle.steps.specs.SumsLaws.{Sums, sums-none, sums-refusal, sums-accepted, sums-end}
 use Rattle.check_lines.specs.declared.Line.{Line}
 use Rattle.check_lines.specs.declared.Line.the-variants.{Malformed, Says}
 use Rattle.check_lines.specs.CheckLines.{lineSays}
@@ -80,25 +82,15 @@ unfolding carriedAll
 in-front order s line (bad number refusal) = refl
 in-front order s line (reads lines) = refl
 
-module _ (order : Order) (few : order .steps ≤ steps) (s : Symbols) (number : ℕ) (others : Order → Reading) where
-  said-refused :
-      (said : Line) (t : Taking) → t ≡ saidTaken order s said → 0 < t .refusal
-      → lineRead number order said others ≡ bad number (t .refusal)
-  said-refused Malformed t e h = ap (bad number) (sym (ap (λ t. t .refusal) e))
-  said-refused (Says line) t e h =
+module _
+    (order : Order) (few : order .steps ≤ steps) (earlier : List CheckLine) (summed : Sums order earlier) (s : Symbols) where
+  -- an accepted line is summed up with those before it
+  said-sums :
+      (line : CheckLine) (t : Taking) → t ≡ taken order s line → t .refusal ≤ 0 → Sums (t .order) (line ∷ earlier)
+  said-sums line t e h =
       let r : t .refusal ≡ judged order line .refusal = ap (λ t. t .refusal) e ∙ taken-refusal order few s line in
-      simp (lt-ltb 0 (judged order line .refusal) (omega arith)) (ap (bad number) (sym r))
-
-  said-accepted :
-      (said : Line) (t : Taking) → t ≡ saidTaken order s said → t .refusal ≤ 0
-      → runFrom order s (lineRead number order said others) ≡ runFrom (t .order) (t .symbols) (others (t .order))
-  said-accepted Malformed t e h = absurd (omega (arith, ap (λ t. t .refusal) e))
-  said-accepted (Says line) t e h =
-      let r : t .refusal ≡ judged order line .refusal = ap (λ t. t .refusal) e ∙ taken-refusal order few s line in
-      let good : judged order line .refusal ≤ 0 = omega arith in
-      let w = e ∙ taken-accepted order few s line good in
-      simp (le-ltb 0 (judged order line .refusal) good)
-      (in-front order s line (others (judged order line .order)) ∙ sym (ap (λ t. runFrom (t .order) (t .symbols) (others (t .order))) w))
+      let w = e ∙ taken-accepted order few s line (omega arith) in
+      rw (ap (λ t. t .order) w) (sums-accepted order earlier summed line (omega arith))
 
   steps-stay : (said : Line) (t : Taking) → t ≡ saidTaken order s said → t .refusal ≤ 0 → t .order .steps ≤ steps
   steps-stay Malformed t e h = absurd (omega (arith, ap (λ t. t .refusal) e))
@@ -107,26 +99,53 @@ module _ (order : Order) (few : order .steps ≤ steps) (s : Symbols) (number : 
       let w = e ∙ taken-accepted order few s line (omega arith) in
       omega (arith, ap (λ t. t .order .steps) w, steps-kept order line few)
 
-read-next :
-    (order : Order) (number : ℕ) (line : List ℕ) (parts : List (List ℕ)) (next : List ℕ) (rest : List (List ℕ))
-    → parts ≡ next ∷ rest
-    → readFrom order number (line ∷ parts) ≡ lineRead number order (lineSays line) (λ after. readFrom after (suc number) parts)
-unfolding readFrom
-read-next order number line parts next rest e = rw e refl
+  module _ (number : ℕ) (others : List CheckLine → Reading) where
+    said-refused :
+        (said : Line) (t : Taking) → t ≡ saidTaken order s said → 0 < t .refusal
+        → lineRead earlier number said others ≡ bad number (t .refusal)
+    said-refused Malformed t e h = ap (bad number) (sym (ap (λ t. t .refusal) e))
+    said-refused (Says line) t e h =
+        let r : t .refusal ≡ refusalOf earlier line = ap (λ t. t .refusal) e ∙ taken-refusal order few s line ∙ sums-refusal order earlier summed line in
+        simp (lt-ltb 0 (refusalOf earlier line) (omega arith)) (ap (bad number) (sym r))
 
-module _ (order : Order) (number : ℕ) (rest : List ℕ) where
+    pub record Next (t : Taking) (said : Line) : Type 0 where
+      pub now : List CheckLine
+      pub sums : Sums (t .order) now
+      pub tells : runFrom order s (lineRead earlier number said others) ≡ runFrom (t .order) (t .symbols) (others now)
+
+    said-accepted : (said : Line) (t : Taking) → t ≡ saidTaken order s said → t .refusal ≤ 0 → Next t said
+    said-accepted Malformed t e h = absurd (omega (arith, ap (λ t. t .refusal) e))
+    said-accepted (Says line) t e h =
+        let r : t .refusal ≡ judged order line .refusal = ap (λ t. t .refusal) e ∙ taken-refusal order few s line in
+        let w = e ∙ taken-accepted order few s line (omega arith) in
+        let good : refusalOf earlier line ≤ 0 = omega (arith, sums-refusal order earlier summed line) in
+        record {
+          now = line ∷ earlier;
+          sums = said-sums line t e h;
+          tells = simp (le-ltb 0 (refusalOf earlier line) good)
+              (in-front order s line (others (line ∷ earlier)) ∙ sym (ap (λ t. runFrom (t .order) (t .symbols) (others (line ∷ earlier))) w));
+        }
+
+read-next :
+    (earlier : List CheckLine) (number : ℕ) (line : List ℕ) (parts : List (List ℕ)) (next : List ℕ) (rest : List (List ℕ))
+    → parts ≡ next ∷ rest
+    → readFrom earlier number (line ∷ parts) ≡ lineRead earlier number (lineSays line) (λ sofar. readFrom sofar (suc number) parts)
+unfolding readFrom
+read-next earlier number line parts next rest e = rw e refl
+
+module _ (earlier : List CheckLine) (number : ℕ) (rest : List ℕ) where
   -- where a line feed is left, the line before it comes first
   read-more :
       length (before lineFeed rest) < length rest
-      → readFrom order number (split lineFeed rest)
-      ≡ lineRead number order (lineSays (before lineFeed rest)) (λ next. readFrom next (suc number) (split lineFeed (after lineFeed rest)))
+      → readFrom earlier number (split lineFeed rest)
+      ≡ lineRead earlier number (lineSays (before lineFeed rest)) (λ sofar. readFrom sofar (suc number) (split lineFeed (after lineFeed rest)))
   read-more h =
-      ap (readFrom order number) (split-more lineFeed rest h)
-      ∙ read-next order number (before lineFeed rest) (split lineFeed (after lineFeed rest)) _ _ (split-some lineFeed (after lineFeed rest))
+      ap (readFrom earlier number) (split-more lineFeed rest h)
+      ∙ read-next earlier number (before lineFeed rest) (split lineFeed (after lineFeed rest)) _ _ (split-some lineFeed (after lineFeed rest))
 
-  read-last : length rest ≤ length (before lineFeed rest) → readFrom order number (split lineFeed rest) ≡ lastRead order number rest
+  read-last : length rest ≤ length (before lineFeed rest) → readFrom earlier number (split lineFeed rest) ≡ lastRead earlier number rest
   unfolding readFrom
-  read-last h = ap (readFrom order number) (split-last lineFeed rest h)
+  read-last h = ap (readFrom earlier number) (split-last lineFeed rest h)
 
 -- ---- What stands behind the last line feed
 
@@ -146,18 +165,21 @@ module _ (order : Order) (number : ℕ) (left : List ℕ) (right : Bool) where
     last-judged h judges = ap (λ b. Decided b) judges ∙ simp (le-ltb _ _ none, le-ltb 0 (refusalAtEnd order) (omega arith))
 
 -- it is what the run tells of it
-last-run : (order : Order) (s : Symbols) (number : ℕ) (left : List ℕ) → lastRun order number left (decided s) ≡ runFrom order s (lastRead order number left)
+last-run :
+    (order : Order) (earlier : List CheckLine) → Sums order earlier → (s : Symbols) (number : ℕ) (left : List ℕ)
+    → lastRun order number left (decided s) ≡ runFrom order s (lastRead earlier number left)
 unfolding lastRun lastRead carriedAll
-last-run order s number left =
-    elim (ltb 0 (length left)) as
-    (λ b. (if b then Refused number refusedForm else if ltb 0 (refusalAtEnd order) then Refused (number - 1) (refusalAtEnd order) else Decided (decided s))
-    ≡ runFrom order s (if b then bad number refusedForm else if ltb 0 (refusalAtEnd order) then bad (number - 1) (refusalAtEnd order) else reads [])) [
+last-run order earlier sums s number left =
+    rw (sums-end order earlier sums)
+    (elim (ltb 0 (length left)) as
+    (λ b. (if b then Refused number refusedForm else if ltb 0 (if isUncalled (stepsOf earlier) then refusedOrder else accepted) then Refused (number - 1) (if isUncalled (stepsOf earlier) then refusedOrder else accepted) else Decided (decided s))
+    ≡ runFrom order s (if b then bad number refusedForm else if isUncalled (stepsOf earlier) then bad (number - 1) refusedOrder else reads [])) [
       | true ↦ refl
-      | false ↦ elim (ltb 0 (refusalAtEnd order)) as
-          (λ b. (if b then Refused (number - 1) (refusalAtEnd order) else Decided (decided s))
-          ≡ runFrom order s (if b then bad (number - 1) (refusalAtEnd order) else reads []))
+      | false ↦ elim (isUncalled (stepsOf earlier)) as
+          (λ b. (if ltb 0 (if b then refusedOrder else accepted) then Refused (number - 1) (if b then refusedOrder else accepted) else Decided (decided s))
+          ≡ runFrom order s (if b then bad (number - 1) refusedOrder else reads []))
           [ true ↦ refl | false ↦ refl ]
-    ]
+    ])
 
 -- ---- Between two lines
 
@@ -172,7 +194,9 @@ unfolding reading
 going-first sheet fresh none named e =
     let start = ap₂ (λ c p. symbolsOf c p nothing nothing (replicate variables noName) nothing nothing nothing nothing) none named in
     record {
-      tells = ap₂ (λ o s. runFrom o s (readFrom o 1 (split lineFeed sheet))) fresh start;
+      earlier = [];
+      sums = rw fresh sums-none;
+      tells = ap₂ (λ o s. runFrom o s (readFrom [] 1 (split lineFeed sheet))) fresh start;
       ends = e;
       lines = omega arith;
       few = omega (arith, ap (λ o. o .steps) fresh);
@@ -184,8 +208,8 @@ module _
   pub going-last : {r : Run} → length rest ≤ end → r ≡ lastRun order number rest (decided s) → r ≡ runOf (reading sheet)
   going-last h tells =
       tells
-      ∙ last-run order s number rest
-      ∙ ap (runFrom order s) (sym (read-last order number rest (omega (arith, g .ends))))
+      ∙ last-run order (g .earlier) (g .sums) s number rest
+      ∙ ap (runFrom order s) (sym (read-last (g .earlier) number rest (omega (arith, g .ends))))
       ∙ g .tells
 
   module _ {line : List ℕ} {t : Taking} (h : end < length rest) (cut : line ≡ take end rest) (e : t ≡ lineTaken order s line) where
@@ -196,10 +220,13 @@ module _
     unfolding lineTaken
     made = e ∙ ap (lineTaken order s) (cut ∙ ap (λ (k : ℕ). take k rest) (g .ends) ∙ take-before lineFeed rest)
 
+    abbrev others : List CheckLine → Reading
+    others sofar = readFrom sofar (suc number) (split lineFeed (after lineFeed rest))
+
     pub going-refused : {r : Run} → 0 < t .refusal → r ≡ Refused number (t .refusal) → r ≡ runOf (reading sheet)
     going-refused refused told =
         told
-        ∙ ap (runFrom order s) (sym (read-more order number rest found ∙ said-refused order (g .few) s number _ (lineSays (before lineFeed rest)) t made refused))
+        ∙ ap (runFrom order s) (sym (read-more (g .earlier) number rest found ∙ said-refused order (g .few) (g .earlier) (g .sums) s number others (lineSays (before lineFeed rest)) t made refused))
         ∙ g .tells
 
     pub going-on :
@@ -207,13 +234,16 @@ module _
         → Going sheet (t .order) (t .symbols) next last (number + 1)
     going-on {next = next} good dropped last =
         let n : next ≡ after lineFeed rest = dropped ∙ ap (λ (k : ℕ). drop (k + 1) rest) (g .ends) ∙ drop-before lineFeed rest in
+        let w = said-accepted order (g .few) (g .earlier) (g .sums) s number others (lineSays (before lineFeed rest)) t made good in
         record {
+          earlier = w .now;
+          sums = w .sums;
           tells =
-              ap₂ (λ k l. runFrom (t .order) (t .symbols) (readFrom (t .order) k (split lineFeed l))) (add-one number) n
-              ∙ sym (said-accepted order (g .few) s number (λ next. readFrom next (suc number) (split lineFeed (after lineFeed rest))) (lineSays (before lineFeed rest)) t made good)
-              ∙ ap (runFrom order s) (sym (read-more order number rest found))
+              ap₂ (λ k l. runFrom (t .order) (t .symbols) (readFrom (w .now) k (split lineFeed l))) (add-one number) n
+              ∙ sym (w .tells)
+              ∙ ap (runFrom order s) (sym (read-more (g .earlier) number rest found))
               ∙ g .tells;
           ends = last;
           lines = omega (arith, ap length n, after-length lineFeed rest found, g .lines);
-          few = steps-stay order (g .few) s number (λ next. readFrom next (suc number) (split lineFeed (after lineFeed rest))) (lineSays (before lineFeed rest)) t made good;
+          few = steps-stay order (g .few) (g .earlier) (g .sums) s (lineSays (before lineFeed rest)) t made good;
         }

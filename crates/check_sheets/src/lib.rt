@@ -15,8 +15,8 @@ ghost use Rattle.check_sheets.specs.CheckSheets.{
   reading,
   answered,
   filled,
+  ByVerdict,
 };
-ghost use Rattle.check_sheets.specs.Judging.{JudgesRightly};
 ghost use Rattle.check_sheets.specs.Running.{lineTaken, lastRun, runOf};
 use answered::Answered;
 use check_lines::Line;
@@ -201,9 +201,9 @@ fn write_verdict(out: &mut [u8], right: bool) -> Answered
 
 // The answer to a check sheet: its length is tested first, then its lines, and the room last.
 pub fn answer(sheet: &[u8], out: &mut [u8]) -> Answered
-    ensures { λ r. ⌜ r ≡ answered (now (sheet .entry)) (length (now (out .entry))) ⌝ }
-    ensures { λ _. ⌜ now (out .exit) ≡ filled (now (sheet .entry)) (now (out .entry)) ⌝ }
-    ensures { λ _. ⌜ JudgesRightly (now (sheet .entry)) (now (out .entry)) (now (out .exit)) ⌝ }
+    ensures { λ r. ⌜ ByVerdict (now (sheet .entry)) (λ right.
+        (r ≡ answered right (now (sheet .entry)) (length (now (out .entry))))
+        × (now (out .exit) ≡ filled right (now (sheet .entry)) (now (out .entry)))) ⌝ }
 {
     if SHEET_BYTES < sheet.len() {
         return Answered::Refused(0, refusals::FULL);

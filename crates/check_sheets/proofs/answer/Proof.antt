@@ -2,12 +2,12 @@
 -- Assumes nothing.
 use borrow.Author.Needs.{needs}
 use Rattle.check_sheets.specs.AnswerLaws.{sheet-full, sheet-refused, sheet-judged}
-use Rattle.check_sheets.specs.JudgingLaws.{answered-rightly}
+use Rattle.check_sheets.specs.TellsLaws.{by-verdict}
 use Rattle.check_sheets.proofs.answer.Statement.{statement}
 use Rattle.check_sheets.proofs.answer.Tie as tie
 
 returns : tie.Need-returns
-returns c = answered-rightly _ _ (sheet-full _ _ (c .if1 .taken))
+returns c = by-verdict _ (sheet-full _ _ _ (c .if1 .taken))
 
 run-lines-requires : tie.Need-run-lines-requires
 run-lines-requires c κs = search needs
@@ -23,7 +23,7 @@ write-verdict-requires c κs = search needs
 
 returns-2 : tie.Need-returns-2
 returns-2 c =
-    answered-rightly _ _
+    by-verdict _
     (sheet-refused _ _ (c .before .before .before .before .if1 .left) (c .before .before .before .run-lines .ensures) (c .before .run .given .1))
 
 same-length : tie.Need-same-length
@@ -31,7 +31,7 @@ same-length c = search needs
 
 returns-3 : tie.Need-returns-3
 returns-3 c =
-    answered-rightly _ _
+    by-verdict _
     (sheet-judged _ _
     (c .before .before .before .before .before .before .before .before .if1 .left)
     (c .before .before .before .before .before .before .before .run-lines .ensures)
