@@ -1,12 +1,11 @@
 -- Laws of the verdict: every sheet that is read has lines in order and in their sizes, so the run on names tells whether its
 -- instructions are right; and nothing else tells it.
 use Prim.Native.Nat.{ℕ, suc, _-_}
-use mathlib.Core.Path.{_≡_, refl, ap, sym, _∙_}
-use mathlib.Core.Bool.{Bool, true, false, _&&_, true≢false, false≢true}
-use mathlib.Core.Logic.{_↔_}
+use mathlib.Core.Path.{_≡_, refl, sym, _∙_}
+use mathlib.Core.Bool.{Bool, true, false, false≢true}
 use mathlib.Core.List.{List, [], _∷_}
 use native.Mathlib.Omega.{arith}
-use lib.Dec.{eqb, ltb}
+use lib.Dec.{ltb}
 use lib.ListN.{length}
 use borrow.Author.Tests.{ltb-false, eq-eqb}
 use Rattle.notation.specs.Choice.{if_then_else_}
@@ -20,7 +19,6 @@ use Rattle.steps.specs.SumsLaws.{Sums, sums-none, sums-refusal, sums-accepted}
 use Rattle.check_lines.specs.declared.Line.{Line}
 use Rattle.check_lines.specs.declared.Line.the-variants.{Malformed, Says}
 use Rattle.check_lines.specs.CheckLines.{lineSays}
-use Rattle.machine.specs.Right.{Right}
 use Rattle.symbolic.specs.Symbolic.{allAccepted}
 use Rattle.verdict.specs.VerdictLaws.{verdict-exactly}
 use Rattle.check_sheets.specs.CheckSheets.{Reading, bad, reads, inFront, lastRead, lineRead, readFrom, reading, Tells, ByVerdict}

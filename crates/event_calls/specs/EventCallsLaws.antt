@@ -8,6 +8,7 @@ use lib.Dec.{ltb}
 use lib.ListN.{length}
 use borrow.Author.Tests.{ltb-false}
 use Rattle.notation.specs.Choice.{if_then_else_}
+use Rattle.notation.specs.ChoiceLaws.{either}
 use Rattle.refusals.specs.Refusals.{refusedSize, refusedFull, refusedRoom}
 use Rattle.sizes.specs.Sizes.{sheetBytes}
 use Rattle.debray_allocator.specs.declared.State.{State}
@@ -18,7 +19,6 @@ use Rattle.answered.specs.Answered.{filledBy}
 use Rattle.answered.specs.AnsweredLaws.{Within, filledBy-length}
 use Rattle.event_sheets.specs.EventSheets.{ended, answeredBy}
 use Rattle.valid_states.specs.ValidStates.{isValid}
-use Rattle.invariants.specs.Lists.{either}
 use Rattle.event_calls.specs.declared.Called.{Called}
 use Rattle.event_calls.specs.EventCalls.{bytesAnswer, textOf, refusedCall, calledBy, called, callFilled, lastAnswered, lastFilled}
 

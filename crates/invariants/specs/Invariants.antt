@@ -5,6 +5,7 @@ use mathlib.Core.List.{List}
 use native.Mathlib.Omega.{arith}
 use lib.Dec.{eqb}
 use lib.ListN.{length, replicate, length-replicate}
+use Rattle.notation.specs.ChoiceLaws.{either}
 use Rattle.sizes.specs.Sizes.{variables, uses, registers, freedRegisters}
 use Rattle.variable_records.specs.declared.Row.{Row}
 use Rattle.variable_records.specs.declared.VarAlloc.{VarAlloc}
@@ -17,7 +18,7 @@ use Rattle.events.specs.declared.Event.{Event}
 use Rattle.debray_allocator.specs.declared.State.{State}
 use Rattle.debray_allocator.specs.State.{freshState}
 use Rattle.debray_allocator.specs.DebrayAllocator.{stepped}
-use Rattle.invariants.specs.Lists.{All, all-plain, all-at, all-replicate, either}
+use Rattle.invariants.specs.Lists.{All, all-plain, all-at, all-replicate}
 use Rattle.invariants.specs.Every.{Every, every-at, every-map, record-modulo}
 use Rattle.invariants.specs.Kept.{Wanted, Kept, holds-so, holds-kind, holds-place, kept-at}
 use Rattle.invariants.specs.OfSteps.{FitsIn, stepped-fits}

@@ -5,6 +5,7 @@ use mathlib.Core.List.{List, [], _∷_}
 use lib.Dec.{leb, ltb}
 use lib.ListN.{getD}
 use borrow.Author.Tests.{ltb-false}
+use Rattle.notation.specs.ChoiceLaws.{either, by-test}
 use Rattle.sizes.specs.Sizes.{variables, registers, freedRegisters}
 use Rattle.variable_records.specs.declared.VarSafetyStatus.the-variants.{Needed}
 use Rattle.variable_records.specs.declared.PermVarAllocation.the-variants.{Done, Pending}
@@ -22,7 +23,7 @@ use Rattle.choice.specs.Choice.{inUse, leastOutside}
 use Rattle.allocation.specs.declared.Popped.{Popped}
 use Rattle.allocation.specs.Allocation.{popped, searched, nonVarBy, nonVar, withoutFront, slotGiven, slotTaken, Placement, newSlot, slotFound, permPlaced}
 use Rattle.freeing.specs.Freeing.{ReleaseOf, freedAs, freed, runningAt, countedOrFreed}
-use Rattle.invariants.specs.Lists.{All, all-at, either, by-test}
+use Rattle.invariants.specs.Lists.{All, all-at}
 use Rattle.invariants.specs.Kept.{Wanted, Holds, Kept, kept-at, kept-put, kept-placed, none-good}
 use Rattle.invariants.specs.OfEvacuation.{GoodChoice, outside-good}
 

@@ -2,6 +2,7 @@
 use Prim.Native.Nat.{ℕ, _%_}
 use mathlib.Core.List.{List}
 use lib.Dec.{eqb, leb}
+use Rattle.notation.specs.ChoiceLaws.{either}
 use Rattle.sizes.specs.Sizes.{variables}
 use Rattle.refusals.specs.Refusals.{accepted}
 use Rattle.variable_records.specs.declared.VarAlloc.{VarAlloc}
@@ -13,7 +14,7 @@ use Rattle.branches.specs.Branches.{closeRefusal, takeRefusal, allocationMet, v
 use Rattle.branches.specs.Branches.{allocationPending, variablePended, toTake, taken, recordsTaken}
 use Rattle.allocator_state.specs.declared.Counters.{Counters}
 use Rattle.branch_events.specs.BranchEvents.{stockTaken, closed}
-use Rattle.invariants.specs.Lists.{all-plain, either, each-keeps}
+use Rattle.invariants.specs.Lists.{all-plain, each-keeps}
 use Rattle.invariants.specs.Kept.{Wanted, Holds, Kept, kept-at, kept-put}
 
 -- nothing is asked of the variables of a list

@@ -4,6 +4,7 @@ use mathlib.Core.Bool.{Bool, true, false}
 use mathlib.Core.List.{List}
 use lib.Dec.{leb}
 use borrow.Author.Tests.{leb-false}
+use Rattle.notation.specs.ChoiceLaws.{either, by-test}
 use Rattle.sizes.specs.Sizes.{variables}
 use Rattle.forms.specs.declared.GenContext.{GenContext}
 use Rattle.variable_records.specs.declared.PermVarAllocation.the-variants.{Pending}
@@ -13,7 +14,7 @@ use Rattle.temp_var_data.specs.Uses.{registerOf, takesUse, useSetsWith}
 use Rattle.allocator_state.specs.declared.Counters.{Counters}
 use Rattle.clause_records.specs.ClauseRecords.{Rows, rowsPut, fresh, Recording, permRecorded}
 use Rattle.clause_records.specs.ClauseRecords.{UseTables, useTables, withUse, usesGiven, TempRecording, freshTemp, tempRecorded}
-use Rattle.invariants.specs.Lists.{all-set, either, by-test, each-keeps}
+use Rattle.invariants.specs.Lists.{all-set, each-keeps}
 use Rattle.invariants.specs.Kept.{Wanted, Holds, Kept, kept-put, none-good}
 use Rattle.invariants.specs.OfEvacuation.{GoodUses}
 

@@ -5,6 +5,7 @@ use mathlib.Core.List.{List, [], _∷_, map}
 use native.Mathlib.Omega.{arith}
 use lib.Dec.{eqb, leb}
 use lib.ListN.{getD, drop}
+use Rattle.notation.specs.ChoiceLaws.{either}
 use Rattle.sizes.specs.Sizes.{variables, uses, registers}
 use Rattle.bit_set.specs.BitSet.{has, union}
 use Rattle.code_deque.specs.declared.CodeDeque.{CodeDeque}
@@ -18,7 +19,7 @@ use Rattle.choice.specs.Choice.{inUse, isFree, first, registersFrom, firstUnuse
 use Rattle.evacuation.specs.declared.Hint.{Hint}
 use Rattle.evacuation.specs.declared.Hint.the-variants.{Stays, Moves, NoRegister as Nowhere}
 use Rattle.evacuation.specs.Evacuation.{Sets, Evacuation, allocWithCr, allocWithCa, setAt, hint, hintTo, movedTo, evacuatedBy, evacuated}
-use Rattle.invariants.specs.Lists.{All, all-take, all-drop, all-map, all-numbers, either}
+use Rattle.invariants.specs.Lists.{All, all-take, all-drop, all-map, all-numbers}
 use Rattle.invariants.specs.Kept.{Wanted, Kept, kept-placed}
 
 module _ (k : Wanted) where

@@ -5,7 +5,7 @@ use mathlib.Core.Bool.{true, _&&_}
 use mathlib.Core.List.{List, [], _∷_}
 use native.Mathlib.Omega.{arith}
 use lib.Dec.{leb, ltb}
-use Rattle.notation.specs.ChoiceLaws.{both-true}
+use Rattle.notation.specs.ChoiceLaws.{both-true, either, by-test}
 use Rattle.sizes.specs.Sizes.{freedRegisters, isRegister, isCount}
 use Rattle.sizes.specs.SizesLaws.{register-exactly}
 use Rattle.forms.specs.declared.GenContext.{GenContext}
@@ -16,7 +16,7 @@ use Rattle.resets.specs.Resets.{registerFreed}
 use Rattle.events.specs.declared.Entries.the-variants.{Uses}
 use Rattle.events.specs.declared.Event.{Event}
 use Rattle.events.specs.Events.{isUse, isContext, allFit, contextFits, inSize, isRecord, refusalBySize, refusalBefore}
-use Rattle.invariants.specs.Lists.{All, all-set, either, by-test}
+use Rattle.invariants.specs.Lists.{All, all-set}
 use Rattle.invariants.specs.Kept.{Wanted}
 use Rattle.invariants.specs.OfEvacuation.{GoodUses}
 

@@ -3,6 +3,7 @@ use Prim.Native.Nat.{ℕ, _%_}
 use mathlib.Core.Bool.{Bool, true, false}
 use mathlib.Core.List.{List}
 use lib.Dec.{eqb, ltb}
+use Rattle.notation.specs.ChoiceLaws.{either}
 use Rattle.sizes.specs.Sizes.{variables}
 use Rattle.registers.specs.declared.RegType.{RegType}
 use Rattle.registers.specs.declared.RegType.the-variants.{Temp as TempRegister, Perm as PermSlot}
@@ -32,7 +33,6 @@ use Rattle.mark_var.specs.declared.Mark.{Mark}
 use Rattle.mark_var.specs.MarkVar.{Noted, noted, settled, Marking, finishedAfter, finished, instructedAt, instructedFor, reservedAfter, reservedMarked}
 use Rattle.mark_var.specs.MarkVar.{VarMark, markedAt, newTemporaryAfter, newTemporaryMarked, newSlotAfter, newSlotMarked, slotMarked}
 use Rattle.mark_var.specs.MarkVar.{temporaryMarked, permanentMarked, markedBy, varMarked}
-use Rattle.invariants.specs.Lists.{either}
 use Rattle.invariants.specs.Kept.{Wanted, Holds, Kept, kept-at, kept-placed, none-good}
 use Rattle.invariants.specs.OfEvacuation.{GoodChoice, GoodUses, cr-good, ca-good, evacuated-keeps}
 use Rattle.invariants.specs.OfAllocation.{GoodPlacement, slot-given-keeps, perm-placed-good, counted-or-freed-keeps}

@@ -3,6 +3,7 @@ use Prim.Native.Nat.{ℕ, _%_}
 use mathlib.Core.Bool.{true, false}
 use mathlib.Core.List.{List}
 use lib.Dec.{eqb, ltb}
+use Rattle.notation.specs.ChoiceLaws.{either}
 use Rattle.sizes.specs.Sizes.{variables}
 use Rattle.registers.specs.declared.RegType.{RegType}
 use Rattle.registers.specs.declared.RegType.the-variants.{Temp as TempRegister}
@@ -25,7 +26,7 @@ use Rattle.evacuation.specs.Evacuation.{Sets}
 use Rattle.allocation.specs.Allocation.{Placement, nonVar, permPlaced}
 use Rattle.other_marks.specs.OtherMarks.{emptiedIn, turnTaken, MarkOf, anonArgument, isArgument, anonPlaced, anonChosen, anonMarked}
 use Rattle.other_marks.specs.OtherMarks.{nonVarArgument, nonVarMarked, CutOf, slotCutBy, slotCut, registerCutBy, registerCut, cutAs, cutMarked}
-use Rattle.invariants.specs.Lists.{All, either}
+use Rattle.invariants.specs.Lists.{All}
 use Rattle.invariants.specs.Kept.{Wanted, Holds, Kept, kept-at, kept-put}
 use Rattle.invariants.specs.OfEvacuation.{GoodChoice, GoodUses, evacuated-keeps}
 use Rattle.invariants.specs.OfAllocation.{GoodPlacement, non-var-good, perm-placed-good}

@@ -1,5 +1,6 @@
 -- What a mark does to a record leaves it of its kind, in its place.
 use Prim.Native.Nat.{ℕ}
+use Rattle.notation.specs.ChoiceLaws.{either}
 use Rattle.forms.specs.declared.Branch.{Branch}
 use Rattle.forms.specs.declared.GenContext.{GenContext}
 use Rattle.forms.specs.declared.GenContext.the-variants.{Head, Mid, Last}
@@ -19,7 +20,6 @@ use Rattle.record_marks.specs.declared.Valued.{Valued}
 use Rattle.record_marks.specs.declared.Valued.the-variants.{Value, Stopped as Halted}
 use Rattle.record_marks.specs.RecordMarks.{argumentSafe, argumentValueOf, argumentValue, subtermValueOf, subtermValue}
 use Rattle.record_marks.specs.RecordMarks.{safeIn, safeArgument, safeAt, markedSafeOf, markedSafe, unconditionallyOf, markedUnconditionally, rememberedOf, rememberedPerm}
-use Rattle.invariants.specs.Lists.{either}
 use Rattle.invariants.specs.Kept.{Wanted, Holds}
 
 module _ (k : Wanted) (w : ℕ) where

@@ -3,6 +3,7 @@ use Prim.Native.Nat.{ℕ, _%_}
 use mathlib.Core.Bool.{Bool}
 use mathlib.Core.List.{List}
 use lib.Dec.{eqb, leb, ltb}
+use Rattle.notation.specs.ChoiceLaws.{either}
 use Rattle.sizes.specs.Sizes.{variables}
 use Rattle.forms.specs.Forms.{chunkNum}
 use Rattle.forms.specs.declared.Branch.{Branch}
@@ -23,7 +24,6 @@ use Rattle.record_marks.specs.declared.Valued.the-variants.{Value, Stopped as H
 use Rattle.record_marks.specs.RecordMarks.{inPlace, markedSafe, argumentValue, subtermValue, rememberedPerm}
 use Rattle.reserved_var.specs.ReservedVar.{SafeStep, safeKept, remembered, safeMadeBy, safeMade, Step, valueKept, argumentMade, met, subtermMade}
 use Rattle.reserved_var.specs.ReservedVar.{othersOut, markedAfter, argumentMarked}
-use Rattle.invariants.specs.Lists.{either}
 use Rattle.invariants.specs.Kept.{Wanted, Kept, kept-at, kept-put}
 use Rattle.invariants.specs.OfEvacuation.{GoodUses, evacuated-keeps}
 use Rattle.invariants.specs.OfRecordMarks.{HoldsSafe, HoldsValue, argument-holds, subterm-holds, safe-holds, remembered-holds}

@@ -4,6 +4,7 @@ use mathlib.Core.List.{List, [], _∷_}
 use native.Mathlib.Omega.{arith}
 use lib.Dec.{leb}
 use lib.ListN.{length, length-take}
+use Rattle.notation.specs.ChoiceLaws.{either}
 use Rattle.sizes.specs.Sizes.{variables, registers, counts}
 use Rattle.variable_records.specs.Rows.{recordAt}
 use Rattle.branch_stack.specs.BranchStack.{currentBranch}
@@ -14,7 +15,6 @@ use Rattle.record_marks.specs.declared.MarkedSafe.the-variants.{Safe, FromTempo
 use Rattle.record_marks.specs.RecordMarks.{markedUnconditionally}
 use Rattle.resets.specs.Resets.{headArguments, Heading, heading, awaitsRegister, argumentPlaced, argumentsPlaced, headBegun, headReset}
 use Rattle.resets.specs.Resets.{Answer, runningIncremented, safeMarkedAs, safeMarked}
-use Rattle.invariants.specs.Lists.{either}
 use Rattle.invariants.specs.Kept.{Wanted, Kept, kept-at, kept-put, kept-placed}
 use Rattle.invariants.specs.OfRecordMarks.{HoldsSafe, unconditionally-holds}
 

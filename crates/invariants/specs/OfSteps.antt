@@ -5,6 +5,7 @@ use mathlib.Core.Bool.{true}
 use mathlib.Core.List.{List}
 use lib.Dec.{ltb}
 use borrow.Author.Tests.{ltb-false}
+use Rattle.notation.specs.ChoiceLaws.{by-test, either}
 use Rattle.events.specs.declared.Event.{Event}
 use Rattle.events.specs.declared.Event.the-variants.{Temp, Perm, Sets, Head, Args, Var, Anon, NonVar, Cut, Incr, Free, Safe, Give, Tail, Next, Open, Arm, Take, Close, Reset, Contents, ClearFree}
 use Rattle.events.specs.Events.{inSize, refusalBefore}
@@ -12,7 +13,7 @@ use Rattle.clause_records.specs.ClauseRecords.{Rows, rows}
 use Rattle.debray_allocator.specs.declared.State.{State}
 use Rattle.debray_allocator.specs.declared.Answer.{Answer}
 use Rattle.debray_allocator.specs.DebrayAllocator.{setsOf, carriedOut, refusedWith, acted, unlessRefused, stepped}
-use Rattle.invariants.specs.Lists.{All, by-test, either}
+use Rattle.invariants.specs.Lists.{All}
 use Rattle.invariants.specs.Kept.{Wanted, Kept}
 use Rattle.invariants.specs.OfEvacuation.{GoodUses}
 use Rattle.invariants.specs.OfAllocation.{freed-keeps}

@@ -1,7 +1,9 @@
--- No second answer fits: two answers that meet a contract are equal, result, state and every lent byte.
+-- No second answer fits: two answers that meet a contract are equal, result, state and every lent byte. Those of check sheets
+-- stand in check_exactly.
 use Prim.Native.Nat.{ℕ}
-use mathlib.Core.Path.{_≡_, ap, ap₂, sym, _∙_}
+use mathlib.Core.Path.{_≡_, ap₂}
 use mathlib.Core.List.{List}
+use Rattle.notation.specs.EquationLaws.{no-second, no-second-part}
 use Rattle.printing.specs.PrintingLaws.{put-unique}
 use Rattle.temp_var_data.specs.Uses.{UseAdded}
 use Rattle.restricting_sets.specs.Restricting.{Populated}
@@ -27,20 +29,6 @@ use Rattle.debray_allocator.specs.declared.Answer.{Answer as StepAnswer}
 use Rattle.debray_allocator.specs.DebrayAllocator.{answerOf}
 use Rattle.answers.specs.declared.Adding.{Adding}
 use Rattle.answers.specs.Adding.{Added}
-use Rattle.symbolic.specs.declared.Counts.{Counts}
-use Rattle.symbolic.specs.declared.Taken.{Taken}
-use Rattle.symbolic.specs.Symbolic.{Symbols, Taking}
-use Rattle.symbolic.specs.Tables.{takingOf}
-
--- ---- The general law
-
--- a contract that says what an answer is: the result, the bytes handed back, or a lent table afterwards
-pub no-second : {A : Type 0} {x y meaning : A} → x ≡ meaning → y ≡ meaning → x ≡ y
-no-second x y = x ∙ sym y
-
--- a contract that says what a gathering of parts is: so each part that can be read off it is settled
-pub no-second-part : {A B : Type 0} {x y meaning : A} (part : A → B) → x ≡ meaning → y ≡ meaning → part x ≡ part y
-no-second-part part x y = ap part (no-second x y)
 
 -- ---- The records, and the result
 
@@ -266,40 +254,6 @@ answer-of-unique x y = (
   where
     actedOf : StepAnswer → Acted
     actedOf a = record { counters = a .state .counters; code = a .code; at = a .at; refusal = a .refusal }
-
--- `symbolic`: take_line
-pub taking-of-unique :
-    {places places′ demands demands′ made made′ values values′ wants wants′ due due′ goal goal′ claims claims′ : List ℕ}
-    {r r′ : Taken} {meaning : Taking}
-    → takingOf places demands made values wants due goal claims r ≡ meaning
-    → takingOf places′ demands′ made′ values′ wants′ due′ goal′ claims′ r′ ≡ meaning
-    → (places ≡ places′) × (demands ≡ demands′) × (made ≡ made′) × (values ≡ values′) × (wants ≡ wants′) × (due ≡ due′)
-    × (goal ≡ goal′) × (claims ≡ claims′) × (r ≡ r′)
-taking-of-unique x y = (
-  no-second-part (λ (t : Taking). t .symbols .doing .places) x y,
-  no-second-part (λ (t : Taking). t .symbols .doing .demands .cells) x y,
-  no-second-part (λ (t : Taking). t .symbols .doing .made .cells) x y,
-  no-second-part (λ (t : Taking). t .symbols .wanting .values) x y,
-  no-second-part (λ (t : Taking). t .symbols .wanting .wants .cells) x y,
-  no-second-part (λ (t : Taking). t .symbols .wanting .due .cells) x y,
-  no-second-part (λ (t : Taking). t .symbols .wanting .goal .cells) x y,
-  no-second-part (λ (t : Taking). t .symbols .claims .cells) x y,
-  no-second-part takenOf x y,
-)
-  where
-    countsOf : Symbols → Counts
-    countsOf s =
-        record {
-          demands = s .doing .demands .count;
-          made = s .doing .made .count;
-          wants = s .wanting .wants .count;
-          due = s .wanting .due .count;
-          goal = s .wanting .goal .count;
-          claims = s .claims .count;
-        }
-
-    takenOf : Taking → Taken
-    takenOf t = record { order = t .order; counts = countsOf (t .symbols); refusal = t .refusal }
 
 -- ---- Records of equations: `Put` has `put-unique` in `printing`
 

@@ -1,5 +1,6 @@
 pub mod Choice
 pub mod ChoiceLaws
+pub mod EquationLaws
 pub mod Text
 pub mod TextLaws
 pub mod Lists

@@ -9,6 +9,7 @@ use native.Mathlib.Omega.{arith}
 use lib.Dec.{eqb, leb, ltb}
 use borrow.Author.Tests.{ltb-true}
 use Rattle.notation.specs.Choice.{if_then_else_}
+use Rattle.notation.specs.ChoiceLaws.{either, by-test}
 use Rattle.refusals.specs.Refusals.{accepted, refusedStop, refusedFull}
 use Rattle.sizes.specs.Sizes.{counts, freedRegisters, freedSlots, openBranches}
 use Rattle.forms.specs.declared.Branch.{Branch}
@@ -37,7 +38,6 @@ use Rattle.debray_allocator.specs.declared.State.{State}
 use Rattle.debray_allocator.specs.declared.Acted.{Acted}
 use Rattle.debray_allocator.specs.declared.Answer.{Answer}
 use Rattle.debray_allocator.specs.DebrayAllocator.{carriedOut, seenAfter, refusedWith, acted, unlessRefused, stepped}
-use Rattle.invariants.specs.Lists.{either, by-test}
 
 -- ---- What is given is what carrying it out is given
 

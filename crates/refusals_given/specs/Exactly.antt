@@ -13,6 +13,7 @@ use native.Mathlib.Omega.{arith}
 use lib.Dec.{ltb}
 use lib.ListN.{length}
 use borrow.Author.Tests.{ltb-true, ltb-false, lt-ltb, le-ltb, not-true, not-false}
+use Rattle.notation.specs.ChoiceLaws.{either, by-test}
 use Rattle.refusals.specs.Refusals.{accepted, refusedForm, refusedOrder, refusedSize, refusedStop, refusedRegister, refusedSlot, refusedFull, refusedRoom}
 use Rattle.sizes.specs.Sizes.{sheetBytes}
 use Rattle.split.specs.Split.{lineFeed, split}
@@ -27,13 +28,13 @@ use Rattle.debray_allocator.specs.declared.Answer.{Answer}
 use Rattle.debray_allocator.specs.State.{freshState}
 use Rattle.debray_allocator.specs.DebrayAllocator.{refusedWith, acted, unlessRefused, stepped}
 use Rattle.answered.specs.declared.Answered.{Answered}
-use Rattle.answered.specs.declared.Answered.the-variants.{Written, Refused}
+use Rattle.answered.specs.declared.Answered.the-variants.{Refused}
+use Rattle.answered.specs.NumberLaws.{lineIn, refusalIn}
 use Rattle.event_sheets.specs.EventSheets.{Ran, saidAnswer, lineAnswer, lastRan, lineRan, ran, sheetRan, answeredBy, answered}
 use Rattle.valid_states.specs.ValidStates.{isValid}
 use Rattle.event_calls.specs.declared.Called.{Called}
 use Rattle.event_calls.specs.EventCalls.{partsAnswer, bytesAnswer, textOf, calledBy, called}
 use Rattle.event_calls.specs.CallLaws.{called-valid, by-refused}
-use Rattle.invariants.specs.Lists.{either, by-test}
 use Rattle.valid_stays.specs.Fits.{Full}
 use Rattle.valid_stays.specs.FromTests.{kindsOf, valid-small, valid-fits}
 use Rattle.refusals_given.specs.Given.{carryingRefusals}
@@ -240,14 +241,6 @@ module _ (s : State) (full : Full s) (valid : isValid s ≡ true) (event : Event
     full-exactly only = (full-only (not-full-row event only), full-given)
 
 -- ---- A sheet as a whole: 7 for its length, first of all, and 9 for the room, last of all
-
-abbrev pub lineIn : Answered → ℕ
-lineIn (Written count) = 0
-lineIn (Refused line refusal) = line
-
-abbrev pub refusalIn : Answered → ℕ
-refusalIn (Written count) = 0
-refusalIn (Refused line refusal) = refusal
 
 -- a line that is refused has a number
 abbrev Numbered : Ran → Type 0

@@ -8,4 +8,3 @@ pub mod OfSteps
 pub mod RefusalsGiven
 pub mod Exactly
 pub mod CarriedExactly
-pub mod CheckExactly

@@ -6,6 +6,7 @@ use mathlib.Core.List.{List, [], _∷_}
 use native.Mathlib.Omega.{arith}
 use lib.Dec.{eqb, leb, ltb}
 use lib.ListN.{length}
+use Rattle.notation.specs.ChoiceLaws.{either, by-test}
 use Rattle.refusals.specs.Refusals.{accepted, refusedOrder, refusedSize, refusedStop, refusedFull}
 use Rattle.sizes.specs.Sizes.{variables, counts, freedRegisters}
 use Rattle.forms.specs.declared.GenContext.{GenContext}
@@ -29,7 +30,7 @@ use Rattle.branches.specs.Branches.{opening, advanced, armRefusal, popped, name
 use Rattle.branch_events.specs.BranchEvents.{openReleased, opened, armed, stockTaken, closeReleased, closed}
 use Rattle.events.specs.declared.Event.{Event}
 use Rattle.events.specs.Events.{inSize, isFull, isRecord, refusalBySize, refusalBefore}
-use Rattle.invariants.specs.Lists.{All, either, by-test}
+use Rattle.invariants.specs.Lists.{All}
 use Rattle.valid_stays.specs.Fits.{Kinds, Records, Permanent, Valid}
 use Rattle.valid_stays.specs.OfBranches.{hits-permanent}
 

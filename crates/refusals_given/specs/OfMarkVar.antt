@@ -7,6 +7,7 @@ use native.Mathlib.Omega.{arith}
 use lib.Dec.{eqb, leb, ltb}
 use lib.ListN.{length}
 use borrow.Author.Tests.{ltb-false}
+use Rattle.notation.specs.ChoiceLaws.{either, by-test}
 use Rattle.refusals.specs.Refusals.{accepted, refusedStop, refusedRegister, refusedSlot, refusedFull}
 use Rattle.sizes.specs.Sizes.{variables, registers, freedSlots}
 use Rattle.registers.specs.declared.RegType.{RegType}
@@ -44,7 +45,6 @@ use Rattle.mark_var.specs.declared.Mark.{Mark}
 use Rattle.mark_var.specs.MarkVar.{Noted, notedSlot, noted, settled, Marking, finishedAfter, finished, instructedAt, instructedFor, reservedAfter, reservedMarked}
 use Rattle.mark_var.specs.MarkVar.{VarMark, markedAt, newTemporaryAfter, newTemporaryMarked, newSlotAfter, newSlotMarked, slotMarked}
 use Rattle.mark_var.specs.MarkVar.{temporaryMarked, permanentMarked, markedBy, varMarked}
-use Rattle.invariants.specs.Lists.{either, by-test}
 use Rattle.valid_stays.specs.Fits.{Kinds, AllocFits, Valid, Uses}
 use Rattle.valid_stays.specs.RecordsFit.{record-fits}
 use Rattle.valid_stays.specs.OfAllocation.{PlacementValid, slot-given-valid, perm-placed-valid}

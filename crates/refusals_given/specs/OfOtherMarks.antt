@@ -2,6 +2,7 @@
 use Prim.Native.Nat.{ℕ}
 use mathlib.Core.List.{List}
 use lib.Dec.{eqb, ltb}
+use Rattle.notation.specs.ChoiceLaws.{either}
 use Rattle.refusals.specs.Refusals.{accepted, refusedRegister, refusedSlot}
 use Rattle.registers.specs.declared.RegType.{RegType}
 use Rattle.registers.specs.declared.RegType.the-variants.{Temp as TempRegister}
@@ -26,7 +27,6 @@ use Rattle.marks.specs.declared.Marked.{Marked}
 use Rattle.other_marks.specs.OtherMarks.{MarkOf, CutOf, emptiedIn, turnTaken, markedAt, instructedAt, isArgument}
 use Rattle.other_marks.specs.OtherMarks.{anonArgument, anonPlaced, anonChosen, anonMarked, termChosen, termMarked, cellMarked, nonVarArgument, nonVarMarked}
 use Rattle.other_marks.specs.OtherMarks.{slotCutBy, slotCut, registerCutBy, registerCut, cutAs, cutMarked}
-use Rattle.invariants.specs.Lists.{either}
 use Rattle.refusals_given.specs.OfReservedVar.{EvacuationGiven, advanced-given, evacuated-given}
 use Rattle.refusals_given.specs.OfMarkVar.{PlacementGiven, perm-placed-given}
 

@@ -4,6 +4,7 @@ use mathlib.Core.Path.{_≡_, refl, sym, subst, _∙_}
 use mathlib.Core.Bool.{true, false≢true}
 use mathlib.Core.List.{List}
 use lib.ListN.{length}
+use Rattle.notation.specs.ChoiceLaws.{either}
 use Rattle.sizes.specs.Sizes.{variables}
 use Rattle.forms.specs.declared.Branch.{Branch}
 use Rattle.forms.specs.declared.GenContext.{GenContext}
@@ -26,7 +27,6 @@ use Rattle.record_marks.specs.declared.MarkedSafe.the-variants.{Safe, FromTempo
 use Rattle.record_marks.specs.declared.Valued.{Valued}
 use Rattle.record_marks.specs.declared.Valued.the-variants.{Value, Stopped as Halted}
 use Rattle.record_marks.specs.RecordMarks.{argumentSafe, argumentValueOf, subtermValueOf, safeArgument, safeAt, markedSafeOf, rememberedOf}
-use Rattle.invariants.specs.Lists.{either}
 use Rattle.invariants.specs.Every.{Every, every-at, every-put}
 use Rattle.valid_stays.specs.Fits.{Kinds, AllocFits}
 

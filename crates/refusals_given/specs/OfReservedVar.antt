@@ -5,6 +5,7 @@ use mathlib.Core.List.{List}
 use native.Mathlib.Omega.{arith}
 use lib.Dec.{eqb, leb, ltb}
 use borrow.Author.Tests.{leb-false}
+use Rattle.notation.specs.ChoiceLaws.{either, by-test}
 use Rattle.refusals.specs.Refusals.{accepted, refusedRegister}
 use Rattle.sizes.specs.Sizes.{variables}
 use Rattle.forms.specs.Forms.{chunkNum}
@@ -30,7 +31,6 @@ use Rattle.record_marks.specs.declared.Valued.the-variants.{Value, Stopped as H
 use Rattle.record_marks.specs.RecordMarks.{inPlace, markedSafe, argumentValue, subtermValue, rememberedPerm}
 use Rattle.reserved_var.specs.ReservedVar.{SafeStep, safeKept, remembered, safeMadeBy, safeMade, Step, instructedAfter, valueKept, argumentMade, met, subtermMade}
 use Rattle.reserved_var.specs.ReservedVar.{othersOut, advancedBy, markedAfter, argumentMarked}
-use Rattle.invariants.specs.Lists.{either, by-test}
 use Rattle.valid_stays.specs.Fits.{Kinds, Valid, Uses}
 use Rattle.valid_stays.specs.RecordsFit.{record-fits}
 use Rattle.valid_stays.specs.TablesFit.{mapped-at, named-temporary}

@@ -7,7 +7,7 @@ use native.Mathlib.Omega.{arith}
 use lib.Dec.{leb, ltb}
 use lib.ListN.{length}
 use borrow.Author.Tests.{ltb-true, ltb-false}
-use Rattle.notation.specs.ChoiceLaws.{both-true}
+use Rattle.notation.specs.ChoiceLaws.{both-true, either, by-test}
 use Rattle.refusals.specs.Refusals.{accepted}
 use Rattle.sizes.specs.Sizes.{variables, uses}
 use Rattle.clause_records.specs.ClauseRecords.{Rows, rows}
@@ -19,7 +19,7 @@ use Rattle.debray_allocator.specs.declared.State.{State}
 use Rattle.debray_allocator.specs.declared.Acted.{Acted}
 use Rattle.debray_allocator.specs.declared.Answer.{Answer}
 use Rattle.debray_allocator.specs.DebrayAllocator.{setsOf, carriedOut, seenAfter, seenIn, refusedWith, acted, unlessRefused, stepped}
-use Rattle.invariants.specs.Lists.{All, either, by-test}
+use Rattle.invariants.specs.Lists.{All}
 use Rattle.invariants.specs.OfEvents.{unrefused-in-size}
 use Rattle.valid_stays.specs.Fits.{Kinds, StateFits}
 use Rattle.refusals_given.specs.Given.{refusalsOf, carryingRefusals}

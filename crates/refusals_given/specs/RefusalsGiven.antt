@@ -1,16 +1,16 @@
--- A line of an event sheet is given no refusal but those of its row. So no sheet and no call is ever refused as 8, and the
--- number that a host is told tells the line and the refusal apart.
-use Prim.Native.Nat.{ℕ, zero, suc, _+_, _*_, _≤_}
-use mathlib.Core.Path.{_≡_, refl, sym, ap, _∙_}
+-- A line of an event sheet is given no refusal but those of its row. So no event sheet and no call is ever refused as 8, and
+-- the number that a host is told tells the line and the refusal apart.
+use Prim.Native.Nat.{ℕ, suc, _≤_}
+use mathlib.Core.Path.{_≡_, refl}
 use mathlib.Core.Logic.{_≢_}
 use mathlib.Core.Bool.{true, not}
 use mathlib.Core.List.{List, [], _∷_, List·Memᴰ·head, List·Memᴰ·tail}
 use native.Mathlib.Omega.{arith}
-use lib.Dec.{eqb, ltb}
-use lib.IntN.{ℤ, pos, negsuc, negℤ}
+use lib.Dec.{ltb}
 use lib.ListN.{length}
 use borrow.Author.Tests.{ltb-true, not-false}
-use Rattle.refusals.specs.Refusals.{accepted, refusedForm, refusedOrder, refusedSize, refusedStop, refusedRegister, refusedSlot, refusedFull, refusedUnreachable, refusedRoom}
+use Rattle.notation.specs.ChoiceLaws.{either, by-test}
+use Rattle.refusals.specs.Refusals.{accepted, refusedForm, refusedOrder, refusedSize, refusedStop, refusedRegister, refusedSlot, refusedFull}
 use Rattle.sizes.specs.Sizes.{sheetBytes}
 use Rattle.split.specs.Split.{lineFeed, split}
 use Rattle.temp_var_data.specs.Lists.{_∈_}
@@ -22,26 +22,15 @@ use Rattle.event_lines.specs.EventLines.{lineSays, lineList}
 use Rattle.debray_allocator.specs.declared.State.{State}
 use Rattle.debray_allocator.specs.State.{freshState}
 use Rattle.debray_allocator.specs.DebrayAllocator.{refusedWith, stepped}
-use Rattle.answered.specs.declared.Answered.{Answered}
-use Rattle.answered.specs.declared.Answered.the-variants.{Written, Refused}
-use Rattle.answered.specs.Answered.{numberOf}
+use Rattle.answered.specs.NumberLaws.{small-told, TellsApart, roomless}
 use Rattle.event_sheets.specs.EventSheets.{Ran, saidAnswer, lineAnswer, ended, lastRan, lineRan, ran, sheetRan}
 use Rattle.event_sheets.specs.EventSheets.{answeredBy as eventsAnsweredBy, answered as answeredEvents}
-use Rattle.steps.specs.declared.Order.{Order}
-use Rattle.steps.specs.Steps.{goalStep, refusalAtEnd, freshOrder, judged}
-use Rattle.steps.specs.StepsLaws.{refusal-le}
-use Rattle.steps.specs.declared.CheckLine.{CheckLine}
-use Rattle.check_lines.specs.declared.Line.{Line as CheckedLine}
-use Rattle.check_lines.specs.declared.Line.the-variants.{Malformed as Unread, Says as Reads}
-use Rattle.check_lines.specs.CheckLines.{lineSays as checkLineSays}
-use Rattle.check_sheets.specs.CheckSheets.{Reading, bad, reads, inFront, lastRead, lineRead, readFrom, reading, verdict, wordOf, roomed}
-use Rattle.check_sheets.specs.CheckSheets.{answeredBy as checkAnsweredBy, answered as answeredCheck}
 use Rattle.valid_states.specs.ValidStates.{isValid}
 use Rattle.valid_states.specs.ValidStatesLaws.{fresh-valid}
 use Rattle.event_calls.specs.declared.Called.{Called}
 use Rattle.event_calls.specs.EventCalls.{partsAnswer, bytesAnswer, textOf, calledBy, called, lastAnswered}
 use Rattle.event_calls.specs.FoldLaws.{line-valid}
-use Rattle.invariants.specs.Lists.{All, either, by-test}
+use Rattle.invariants.specs.Lists.{All}
 use Rattle.valid_stays.specs.Fits.{Full}
 use Rattle.valid_stays.specs.FromTests.{kindsOf, valid-small, valid-fits}
 use Rattle.valid_stays.specs.ValidStays.{full-fresh}
@@ -117,21 +106,6 @@ rows-of-events Reset = (none, tt)
 rows-of-events Contents = (none, tt)
 rows-of-events ClearFree = (none, tt)
 
--- what anything can be given: at most 9, and not 8
-abbrev pub Told : ℕ → Type 0
-Told refusal = (refusal ≤ refusedRoom) × (refusal ≢ refusedUnreachable)
-
-small-told : {refusal : ℕ} → refusal ≤ refusedFull → Told refusal
-small-told h = (omega arith, omega arith)
-
--- an answer that is refused is given such a number, and not 0
-abbrev pub TellsApart : Answered → Type 0
-TellsApart (Written count) = Unit {0}
-TellsApart (Refused line refusal) = (1 ≤ refusal) × Told refusal
-
-roomless : TellsApart (Refused 0 refusedRoom)
-roomless = (omega arith, (omega arith, omega arith))
-
 -- ---- Event sheets
 
 module _ (s : State) (tables : Full s) (valid : isValid s ≡ true) where
@@ -202,85 +176,3 @@ module _ (s : State) (tables : Full s) where
 pub last-tells : (s : State) (lent : ℕ) → TellsApart (lastAnswered s lent)
 unfolding lastAnswered
 last-tells s lent = either TellsApart (isValid s) (ran-tells (ended (s .counters)) (omega arith) lent) (omega arith, (omega arith, omega arith))
-
--- ---- Check sheets
-
-abbrev ReadingTells : Reading → Type 0
-ReadingTells (bad number refusal) = (1 ≤ refusal) × Told refusal
-ReadingTells (reads lines) = Unit {0}
-
-end-small : (o : Order) → refusalAtEnd o ≤ refusedFull
-unfolding refusalAtEnd
-end-small o = either (λ (n : ℕ). n ≤ refusedFull) (eqb (o .kind) goalStep) (omega arith) (omega arith)
-
-last-read-tells : (o : Order) (number : ℕ) (left : List ℕ) → ReadingTells (lastRead o number left)
-unfolding lastRead
-last-read-tells o number left =
-    either ReadingTells (ltb 0 (length left)) (omega arith, (omega arith, omega arith))
-    (by-test ReadingTells (ltb 0 (refusalAtEnd o)) (λ e. (ltb-true 0 (refusalAtEnd o) e, small-told (end-small o))) (λ e. tt))
-
-in-front-tells : (line : CheckLine) (r : Reading) → ReadingTells r → ReadingTells (inFront line r)
-in-front-tells line (bad number refusal) tells = tells
-in-front-tells line (reads lines) tells = tt
-
-line-read-tells :
-    (number : ℕ) (o : Order) (said : CheckedLine) (others : Order → Reading) → ((after : Order) → ReadingTells (others after))
-    → ReadingTells (lineRead number o said others)
-line-read-tells number o Unread others later = (omega arith, (omega arith, omega arith))
-line-read-tells number o (Reads line) others later =
-    let refusal = judged o line .refusal in
-    by-test ReadingTells (ltb 0 refusal) (λ e. (ltb-true 0 refusal e, small-told (refusal-le o line)))
-    (λ e. in-front-tells line (others (judged o line .order)) (later (judged o line .order)))
-
-read-tells : (parts : List (List ℕ)) (o : Order) (number : ℕ) → ReadingTells (readFrom o number parts)
-unfolding readFrom
-read-tells [] o number = tt
-read-tells (left ∷ []) o number = last-read-tells o number left
-read-tells (line ∷ (next ∷ parts)) o number =
-    line-read-tells number o (checkLineSays line) (λ after. readFrom after (suc number) (next ∷ parts))
-    (λ after. read-tells (next ∷ parts) after (suc number))
-
-reading-tells : (r : Reading) → ReadingTells r → (lent : ℕ) → TellsApart (checkAnsweredBy r lent)
-unfolding roomed
-reading-tells (bad number refusal) tells lent = tells
-reading-tells (reads lines) tells lent = either TellsApart (ltb lent (length (wordOf (verdict lines)))) roomless tt
-
-pub check-tells : (sheet : List ℕ) (lent : ℕ) → TellsApart (answeredCheck sheet lent)
-unfolding answeredCheck reading
-check-tells sheet lent =
-    either TellsApart (ltb sheetBytes (length sheet)) (omega arith, (omega arith, omega arith))
-    (reading-tells (reading sheet) (read-tells (split lineFeed sheet) freshOrder 1) lent)
-
--- ---- The number for a host
-
-abbrev sizeOf : ℤ → ℕ
-sizeOf (pos n) = n
-sizeOf (negsuc n) = suc n
-
-abbrev signOf : ℤ → ℕ
-signOf (pos n) = 0
-signOf (negsuc n) = 1
-
-size-negated : (n : ℕ) → sizeOf (negℤ (pos n)) ≡ n
-size-negated zero = refl
-size-negated (suc n) = refl
-
-sign-negated : (n : ℕ) → 1 ≤ n → signOf (negℤ (pos n)) ≡ 1
-sign-negated zero some = absurd (omega arith)
-sign-negated (suc n) some = refl
-
-told-both : {l m r q : ℕ} → l ≡ m → r ≡ q → Refused l r ≡ Refused m q
-told-both {l} {m} {r} {q} same also = ap (λ line. Refused line r) same ∙ ap (λ refusal. Refused m refusal) also
-
--- it tells the count, or the line and the refusal
-pub number-tells : (a b : Answered) → TellsApart a → TellsApart b → numberOf a ≡ numberOf b → a ≡ b
-number-tells (Written m) (Written n) p q e = ap Written (ap sizeOf e)
-number-tells (Written m) (Refused line refusal) p q e =
-    let sign : _≡_ {A = ℕ} 0 1 = ap signOf e ∙ sign-negated (16 * line + refusal) (omega (arith, q .0)) in
-    absurd (omega arith)
-number-tells (Refused line refusal) (Written n) p q e =
-    let sign : _≡_ {A = ℕ} 0 1 = ap signOf (sym e) ∙ sign-negated (16 * line + refusal) (omega (arith, p .0)) in
-    absurd (omega arith)
-number-tells (Refused l r) (Refused m q) p t e =
-    let same : 16 * l + r ≡ 16 * m + q = sym (size-negated (16 * l + r)) ∙ ap sizeOf e ∙ size-negated (16 * m + q) in
-    told-both (omega (arith, p .1 .0, t .1 .0)) (omega (arith, p .1 .0, t .1 .0))

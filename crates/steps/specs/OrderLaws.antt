@@ -1,10 +1,10 @@
 -- Laws of judged lines: what an accepted line has passed, and what the order says after it.
-use Prim.Native.Nat.{ℕ, _+_, _≤_, _<_}
-use mathlib.Core.Path.{_≡_, refl, ap}
+use Prim.Native.Nat.{ℕ, _≤_, _<_}
+use mathlib.Core.Path.{_≡_, refl}
 use mathlib.Core.Bool.{Bool, true, false, _&&_}
 use native.Mathlib.Omega.{arith}
 use lib.Dec.{eqb, ltb}
-use borrow.Author.Tests.{leb-false, ltb-true, eqb-true, eq-eqb, ne-eqb}
+use borrow.Author.Tests.{leb-false, ltb-true, eqb-true, eq-eqb}
 use Rattle.notation.specs.Choice.{if_then_else_}
 use Rattle.notation.specs.ChoiceLaws.{both-true}
 use Rattle.refusals.specs.Refusals.{accepted, refusedFull}

@@ -1,6 +1,6 @@
 -- The lines of a check sheet, and what refuses one behind the lines before it: order, sizes, and what is full.
 -- Lines and steps that stand before are listed with the last one first.
-use Prim.Native.Nat.{ℕ, _+_}
+use Prim.Native.Nat.{ℕ}
 use mathlib.Core.Bool.{Bool, true, false, not, _&&_, _||_}
 use mathlib.Core.List.{List, [], _∷_}
 use lib.Dec.{eqb, leb, ltb}

@@ -1,7 +1,7 @@
 -- An order sums up the lines so far: what it tells of the next line is what they say of it.
-use Prim.Native.Nat.{ℕ, _+_}
+use Prim.Native.Nat.{ℕ}
 use mathlib.Core.Path.{_≡_, refl, ap, ap₂, sym, _∙_}
-use mathlib.Core.Bool.{Bool, true, false, _&&_, _||_}
+use mathlib.Core.Bool.{true, false, _&&_, _||_}
 use mathlib.Core.List.{List, [], _∷_}
 use native.Mathlib.Omega.{arith}
 use lib.Dec.{eqb, leb}
@@ -9,8 +9,8 @@ use lib.ListN.{length}
 use borrow.Author.Tests.{leb-false, ne-eqb}
 use Rattle.notation.specs.Choice.{if_then_else_}
 use Rattle.refusals.specs.Refusals.{accepted, refusedOrder}
-use Rattle.sizes.specs.Sizes.{variables, steps, instructions}
-use Rattle.bit_set.specs.BitSet.{has, inserted}
+use Rattle.sizes.specs.Sizes.{steps, instructions}
+use Rattle.bit_set.specs.BitSet.{has}
 use Rattle.bit_set.specs.BitSetLaws.{has-empty, has-inserted}
 use Rattle.instructions.specs.declared.Instruction.{Instruction}
 use Rattle.steps.specs.declared.Step.{Step}
@@ -19,7 +19,7 @@ use Rattle.steps.specs.declared.CheckLine.{CheckLine}
 use Rattle.steps.specs.declared.CheckLine.the-variants.{Begins, Does}
 use Rattle.steps.specs.declared.Order.{Order}
 use Rattle.steps.specs.Steps.{stepsOf, instructionsOf, takesNumber, pastHead, inGoal, misplaced, numberTaken, isOutOfOrder, isUncalled, fits, isFull, firstOf, refusalOf}
-use Rattle.steps.specs.Order.{noStep, goalStep, kindOf, misplacedUnder, breaksOrder, overfills, refusalBy, freshOrder, goalAfter, begun, done, following, judged, refusalAtEnd}
+use Rattle.steps.specs.Order.{noStep, goalStep, kindOf, misplacedUnder, breaksOrder, overfills, refusalBy, freshOrder, goalAfter, following, judged, refusalAtEnd}
 use Rattle.steps.specs.OrderLaws.{none-refuses, judged-refusal, accepted-order, argument-and-variable}
 
 abbrev lastKind : List Step → ℕ

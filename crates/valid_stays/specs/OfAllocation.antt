@@ -7,6 +7,7 @@ use native.Mathlib.Omega.{arith}
 use lib.Dec.{leb, ltb}
 use lib.ListN.{length, getD}
 use borrow.Author.Tests.{ltb-true, ltb-false, leb-false}
+use Rattle.notation.specs.ChoiceLaws.{either, by-test}
 use Rattle.sizes.specs.Sizes.{registers, counters, chunks, counts, freedRegisters, freedSlots}
 use Rattle.variable_records.specs.declared.VarSafetyStatus.the-variants.{Needed}
 use Rattle.variable_records.specs.declared.PermVarAllocation.the-variants.{Done, Pending}
@@ -26,7 +27,6 @@ use Rattle.allocation.specs.declared.Popped.{Popped}
 use Rattle.allocation.specs.declared.NonVar.{NonVar}
 use Rattle.allocation.specs.Allocation.{popped, searched, nonVarBy, nonVar, slotGiven, slotTaken, Placement, newSlot, slotFound, permPlaced}
 use Rattle.freeing.specs.Freeing.{Release, pushedFree, ReleaseOf, freedAs, freed as freeing, runningAt, countedOrFreed}
-use Rattle.invariants.specs.Lists.{either, by-test}
 use Rattle.valid_stays.specs.Fits.{Kinds, Placed, AllocFits, EntryFits, Queue, Freed, Valid}
 use Rattle.valid_stays.specs.RecordsFit.{record-fits}
 use Rattle.valid_stays.specs.TablesFit.{counter-after, queue-pushed}

@@ -6,6 +6,7 @@ use mathlib.Core.List.{List, [], _∷_}
 use native.Mathlib.Omega.{arith}
 use lib.Dec.{eqb, leb, ltb}
 use borrow.Author.Tests.{leb-false}
+use Rattle.notation.specs.ChoiceLaws.{either, by-test}
 use Rattle.sizes.specs.Sizes.{counts, openBranches}
 use Rattle.variable_records.specs.declared.VarAlloc.{VarAlloc}
 use Rattle.variable_records.specs.declared.VarAlloc.the-variants.{Temp, Perm}
@@ -23,7 +24,7 @@ use Rattle.branches.specs.Branches.{openRefusal, armRefusal, takeRefusal, close
 use Rattle.branches.specs.Branches.{nextArm, advanced, rowsAdvanced, setsAdvanced, namesTemporary, nowhereRecorded, allocationMet, variableClosed, occurrencesAdded, popped, leftOnTop, recordsPopped, rowsPopped, setsPopped}
 use Rattle.branches.specs.Branches.{safetyTaken, allocationPending, variablePended, toTake, taken, recordsTaken, rowsTaken, setsTaken}
 use Rattle.branch_events.specs.BranchEvents.{Stack, BranchStep, branchFrom, openReleased, opened, armed, stockTaken, closeReleased, closed}
-use Rattle.invariants.specs.Lists.{All, either, by-test, each-keeps}
+use Rattle.invariants.specs.Lists.{All, each-keeps}
 use Rattle.valid_stays.specs.Fits.{Kinds, AllocFits, Records, Permanent, Valid}
 use Rattle.valid_stays.specs.RecordsFit.{record-fits, records-put}
 use Rattle.valid_stays.specs.Steps.{with-records, with-branches, levels-valid}

@@ -8,6 +8,7 @@ use native.Mathlib.Omega.{arith}
 use lib.Dec.{eqb, leb}
 use borrow.Author.Tests.{eqb-true, eqb-false, leb-true, leb-false}
 use Rattle.notation.specs.Choice.{if_then_else_}
+use Rattle.notation.specs.ChoiceLaws.{either, by-test}
 use Rattle.notation.specs.Lists.{numbersFrom}
 use Rattle.sizes.specs.Sizes.{variables, registers, counts, openBranches}
 use Rattle.bit_set.specs.BitSet.{has, emptySet, inserted, union}
@@ -20,7 +21,7 @@ use Rattle.branch_stack.specs.BranchStackLaws.{occurrences-put-same, occurrence
 use Rattle.branches.specs.Lists.{members, membersAmong}
 use Rattle.branches.specs.Branches.{topOf, rowsTop, setsTop, occurrenceAdded, recorded, rowsRecorded, setsRecorded, recordRefusal}
 use Rattle.branches.specs.Branches.{shallowJoined, deepJoined, branchMet, occurrencesAdded, insertedIf, shallowTaken, deepTaken, guardsAt, safetyTaken}
-use Rattle.invariants.specs.Lists.{All, either, by-test, each-keeps}
+use Rattle.invariants.specs.Lists.{All, each-keeps}
 use Rattle.valid_stays.specs.Tests.{one-of}
 use Rattle.valid_stays.specs.Fits.{Kinds, AllIn, Permanent, Variable, BranchFits, Branches}
 

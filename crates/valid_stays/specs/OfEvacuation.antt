@@ -9,7 +9,7 @@ use lib.Dec.{eqb, leb}
 use lib.ListN.{getD, take, drop}
 use lib.Seq.{getD-drop}
 use borrow.Author.Tests.{leb-false}
-use Rattle.notation.specs.ChoiceLaws.{both-true}
+use Rattle.notation.specs.ChoiceLaws.{both-true, either, by-test}
 use Rattle.notation.specs.Lists.{numbersFrom}
 use Rattle.sizes.specs.Sizes.{variables, uses, registers, isRegister}
 use Rattle.sizes.specs.SizesLaws.{register-exactly}
@@ -26,7 +26,7 @@ use Rattle.evacuation.specs.declared.Hint.{Hint}
 use Rattle.evacuation.specs.declared.Hint.the-variants.{Stays, Moves, NoRegister as Nowhere}
 use Rattle.evacuation.specs.Evacuation.{Sets, Evacuation, allocWithCr, allocWithCa, setAt, hint, hintTo, movedTo, evacuatedBy, evacuated}
 use Rattle.events.specs.Events.{isUse, isContext}
-use Rattle.invariants.specs.Lists.{All, all-map, either, by-test}
+use Rattle.invariants.specs.Lists.{All, all-map}
 use Rattle.valid_stays.specs.Fits.{Kinds, Placed, Counts, Temporary, Valid, Uses}
 use Rattle.valid_stays.specs.TablesFit.{mapped-at, named-temporary}
 use Rattle.valid_stays.specs.Steps.{placed-valid, mapped-valid, used-valid}

@@ -7,6 +7,7 @@ use mathlib.Core.List.{List}
 use native.Mathlib.Omega.{arith}
 use lib.Dec.{eqb, ltb}
 use borrow.Author.Tests.{ltb-true, ltb-false, eqb-false}
+use Rattle.notation.specs.ChoiceLaws.{either, by-test}
 use Rattle.sizes.specs.Sizes.{registers, chunks}
 use Rattle.registers.specs.declared.RegType.{RegType}
 use Rattle.registers.specs.declared.RegType.the-variants.{Temp as TempRegister, Perm as PermSlot}
@@ -36,7 +37,6 @@ use Rattle.mark_var.specs.declared.Mark.{Mark}
 use Rattle.mark_var.specs.MarkVar.{Noted, notedSlot, noted, settled, Marking, finishedAfter, finished, instructedAt, instructedFor, reservedAfter, reservedMarked}
 use Rattle.mark_var.specs.MarkVar.{VarMark, markedAt, newTemporaryAfter, newTemporaryMarked, newSlotAfter, newSlotMarked, slotMarked}
 use Rattle.mark_var.specs.MarkVar.{temporaryMarked, permanentMarked, markedBy, varMarked}
-use Rattle.invariants.specs.Lists.{either, by-test}
 use Rattle.valid_stays.specs.Fits.{Kinds, Placed, AllocFits, Valid, Uses}
 use Rattle.valid_stays.specs.RecordsFit.{record-fits}
 use Rattle.valid_stays.specs.Steps.{placed-valid, mapped-valid, used-valid, with-branches}

@@ -6,6 +6,7 @@ use mathlib.Core.List.{List}
 use native.Mathlib.Omega.{arith}
 use lib.Dec.{eqb, ltb}
 use borrow.Author.Tests.{eqb-false}
+use Rattle.notation.specs.ChoiceLaws.{either, by-test}
 use Rattle.registers.specs.declared.RegType.{RegType}
 use Rattle.registers.specs.declared.RegType.the-variants.{Temp as TempRegister}
 use Rattle.instructions.specs.declared.Instruction.{Instruction}
@@ -29,7 +30,6 @@ use Rattle.allocation.specs.Allocation.{Placement, nonVar, permPlaced}
 use Rattle.marks.specs.declared.Marked.{Marked}
 use Rattle.other_marks.specs.OtherMarks.{emptiedIn, turnTaken, markedAt, instructedAt, MarkOf, anonArgument, isArgument, anonPlaced, anonChosen, anonMarked}
 use Rattle.other_marks.specs.OtherMarks.{termChosen, termMarked, cellMarked, nonVarArgument, nonVarMarked, CutOf, slotCutBy, slotCut, registerCutBy, registerCut, cutAs, cutMarked}
-use Rattle.invariants.specs.Lists.{either, by-test}
 use Rattle.valid_stays.specs.Fits.{Kinds, AllocFits, Valid, Uses}
 use Rattle.valid_stays.specs.RecordsFit.{record-fits}
 use Rattle.valid_stays.specs.Steps.{put-valid, used-valid}

@@ -2,6 +2,7 @@
 use Prim.Native.Nat.{ℕ, _<_}
 use lib.Dec.{eqb, ltb}
 use borrow.Author.Tests.{lt-ltb}
+use Rattle.notation.specs.ChoiceLaws.{either}
 use Rattle.forms.specs.declared.Branch.{Branch}
 use Rattle.forms.specs.declared.GenContext.{GenContext}
 use Rattle.forms.specs.declared.GenContext.the-variants.{Head, Mid, Last}
@@ -23,7 +24,6 @@ use Rattle.record_marks.specs.declared.Valued.{Valued}
 use Rattle.record_marks.specs.declared.Valued.the-variants.{Value, Stopped as Halted}
 use Rattle.record_marks.specs.RecordMarks.{argumentSafe, argumentValueOf, argumentValue, subtermValueOf, subtermValue}
 use Rattle.record_marks.specs.RecordMarks.{safeIn, safeArgument, safeAt, markedSafeOf, markedSafe, unconditionallyOf, markedUnconditionally, rememberedOf, rememberedPerm}
-use Rattle.invariants.specs.Lists.{either}
 use Rattle.valid_stays.specs.Tests.{right-so}
 use Rattle.valid_stays.specs.Fits.{Kinds, AllocFits, RecordFits}
 

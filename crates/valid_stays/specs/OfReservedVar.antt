@@ -4,6 +4,7 @@ use mathlib.Core.Bool.{Bool}
 use mathlib.Core.List.{List}
 use lib.Dec.{eqb, leb, ltb}
 use borrow.Author.Tests.{leb-false}
+use Rattle.notation.specs.ChoiceLaws.{either, by-test}
 use Rattle.sizes.specs.Sizes.{variables}
 use Rattle.forms.specs.Forms.{chunkNum}
 use Rattle.forms.specs.declared.Branch.{Branch}
@@ -27,7 +28,6 @@ use Rattle.record_marks.specs.declared.Valued.the-variants.{Value, Stopped as H
 use Rattle.record_marks.specs.RecordMarks.{inPlace, markedSafe, argumentValue, subtermValue, rememberedPerm}
 use Rattle.reserved_var.specs.ReservedVar.{SafeStep, safeKept, remembered, safeMadeBy, safeMade, Step, instructedAfter, valueKept, argumentMade, met, subtermMade}
 use Rattle.reserved_var.specs.ReservedVar.{othersOut, advancedBy, markedAfter, argumentMarked}
-use Rattle.invariants.specs.Lists.{either, by-test}
 use Rattle.valid_stays.specs.Fits.{Kinds, Valid, Uses}
 use Rattle.valid_stays.specs.RecordsFit.{record-fits}
 use Rattle.valid_stays.specs.TablesFit.{counter-after, mapped-at, named-temporary}

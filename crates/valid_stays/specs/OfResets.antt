@@ -8,6 +8,7 @@ use native.Mathlib.Omega.{arith}
 use lib.Dec.{leb}
 use lib.ListN.{length, length-take}
 use borrow.Author.Tests.{leb-false}
+use Rattle.notation.specs.ChoiceLaws.{by-test}
 use Rattle.sizes.specs.Sizes.{variables, registers, counts, freedRegisters}
 use Rattle.bit_set.specs.BitSet.{emptySet, removed}
 use Rattle.bit_set.specs.BitSetLaws.{has-empty}
@@ -24,7 +25,7 @@ use Rattle.record_marks.specs.declared.MarkedSafe.the-variants.{Safe, FromTempo
 use Rattle.record_marks.specs.RecordMarks.{markedUnconditionally}
 use Rattle.resets.specs.Resets.{argReset, headArguments, Heading, heading, hasNoRegister, awaitsRegister, argumentPlaced, argumentsPlaced, headBegun, headReset}
 use Rattle.resets.specs.Resets.{Clearing, argAdvanced, contentsReset, wholeReset, freeListReset, registerFreed, Answer, runningIncremented, safeMarkedAs, safeMarked}
-use Rattle.invariants.specs.Lists.{All, all-take, by-test}
+use Rattle.invariants.specs.Lists.{All, all-take}
 use Rattle.valid_stays.specs.Fits.{Kinds, Placed, Counter, AllocFits, Temporary, Valid}
 use Rattle.valid_stays.specs.RecordsFit.{record-fits}
 use Rattle.valid_stays.specs.TablesFit.{counter-after, removed-usable, none-mapped}

@@ -7,7 +7,7 @@ use mathlib.Core.List.{List, [], _∷_}
 use native.Mathlib.Omega.{arith}
 use lib.Dec.{eqb, leb, ltb}
 use borrow.Author.Tests.{ltb-true, ltb-false, leb-true, leb-false, eqb-true}
-use Rattle.notation.specs.ChoiceLaws.{both-true}
+use Rattle.notation.specs.ChoiceLaws.{both-true, either, by-test}
 use Rattle.sizes.specs.Sizes.{variables, chunks, counts, isChunk, isCount}
 use Rattle.sizes.specs.SizesLaws.{register-exactly}
 use Rattle.forms.specs.Forms.{chunkNum}
@@ -27,7 +27,7 @@ use Rattle.debray_allocator.specs.declared.Acted.{Acted}
 use Rattle.debray_allocator.specs.declared.Answer.{Answer}
 use Rattle.debray_allocator.specs.State.{stateOf}
 use Rattle.debray_allocator.specs.DebrayAllocator.{setsOf, withRecording, withTempRecording, carriedOut, seenAfter, seenIn, refusedWith, acted, unlessRefused, stepped}
-use Rattle.invariants.specs.Lists.{All, either, by-test}
+use Rattle.invariants.specs.Lists.{All}
 use Rattle.invariants.specs.OfEvents.{unrefused-in-size}
 use Rattle.valid_stays.specs.Tests.{one-of}
 use Rattle.valid_stays.specs.Fits.{Kinds, RecordFits, Valid, StateFits}

@@ -8,7 +8,7 @@ use native.Mathlib.Omega.{arith}
 use lib.Dec.{eqb, leb}
 use lib.ListN.{length, replicate}
 use borrow.Author.Tests.{leb-true, le-leb, eqb-true, eqb-false}
-use Rattle.notation.specs.ChoiceLaws.{both-true}
+use Rattle.notation.specs.ChoiceLaws.{both-true, either, by-test}
 use Rattle.notation.specs.ListLaws.{cells-put-same, cells-put-other}
 use Rattle.sizes.specs.Sizes.{variables, registers, chunks, counts, isArgument, isChunk, isCount}
 use Rattle.forms.specs.Forms.{chunkNum}
@@ -25,7 +25,6 @@ use Rattle.variable_records.specs.Records.{placedAlloc, placedAt}
 use Rattle.variable_records.specs.Rows.{safetyRowOf, contextCode, contextOf, allocationOf, recordOf, rowOf, rowCells, rowStart, rowAt, rowPut, recordAt, recordPut, temporary, isTemporary}
 use Rattle.variable_records.specs.TableLaws.{record-put-same, record-put-other, record-put-length}
 use Rattle.valid_states.specs.ValidStates.{namesNoneOr, rowFits}
-use Rattle.invariants.specs.Lists.{either, by-test}
 use Rattle.valid_stays.specs.Fits.{Kinds, AllocFits, RecordFits, Records}
 
 -- ---- The row that is put, and the others

@@ -10,6 +10,7 @@ use lib.Dec.{eqb, leb, ltb}
 use lib.ListN.{getD, set, length-set, replicate, length-replicate, getD-replicate}
 use lib.Seq.{getD-set-same, getD-set-other}
 use borrow.Author.Tests.{ltb-true, leb-true, leb-false, eqb-true, eqb-false, ne-eqb}
+use Rattle.notation.specs.ChoiceLaws.{either, by-test}
 use Rattle.sizes.specs.Sizes.{variables, registers, counters, freedRegisters, freedSlots}
 use Rattle.bit_set.specs.BitSet.{has, inserted, removed}
 use Rattle.bit_set.specs.BitSetLaws.{has-inserted, inserted-outside}
@@ -19,7 +20,6 @@ use Rattle.perm_free_list.specs.declared.FreedSlot.{FreedSlot}
 use Rattle.perm_free_list.specs.PermFreeList.{entryAt, entryPut}
 use Rattle.perm_free_list.specs.TableLaws.{entry-put-same, entry-put-other, entry-put-length}
 use Rattle.allocator_state.specs.State.{counterAfter}
-use Rattle.invariants.specs.Lists.{either, by-test}
 use Rattle.valid_stays.specs.Fits.{Kinds, Placed, Counter, Temporary, Named, Mappings, EntryFits, Queue, Freed}
 
 -- ---- Numbers
