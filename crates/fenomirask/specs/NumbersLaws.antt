@@ -1,6 +1,7 @@
 -- Laws of the numbers: every answer to a sheet or a call can be told as one.
 use Prim.Native.Nat.{ℕ, _≤_, _<_, _^_, _+_}
 use mathlib.Core.Path.{_≡_, refl, sym, subst}
+use mathlib.Core.Bool.{Bool}
 use mathlib.Core.List.{List}
 use native.Mathlib.Omega.{arith}
 use Rattle.sizes.specs.Sizes.{sheetBytes}
@@ -33,12 +34,12 @@ module _ (sheet : List ℕ) (room : ℕ) (h : room < 2 ^ 63) {a : Answered} wher
       (λ count w. events-written sheet room count w .0)
       (λ line refusal w. events-line sheet room line refusal w))
 
-  pub check-fits : a ≡ answeredCheck sheet room → Fits a
-  check-fits e =
+  pub check-fits : (right : Bool) → a ≡ answeredCheck right sheet room → Fits a
+  check-fits right e =
       subst Fits (sym e)
-      (within-fits room (answeredCheck sheet room) h
-      (λ count w. check-written sheet room count w .0)
-      (λ line refusal w. check-line sheet room line refusal w))
+      (within-fits room (answeredCheck right sheet room) h
+      (λ count w. check-written right sheet room count w .0)
+      (λ line refusal w. check-line right sheet room line refusal w))
 
 -- the same of an answer to a call, which tells line 1 at most
 call-fits-within :

@@ -8,8 +8,7 @@ ghost use Rattle.answered.specs.Answered.{numberOf};
 ghost use Rattle.debray_allocator.specs.State.{freshState};
 ghost use Rattle.event_calls.specs.EventCalls.{called, callFilled, lastAnswered, lastFilled};
 ghost use Rattle.event_sheets.specs.EventSheets.{answered as answeredEvents, filled as filledEvents};
-ghost use Rattle.check_sheets.specs.CheckSheets.{answered as answeredCheck, filled as filledCheck};
-ghost use Rattle.check_sheets.specs.Judging.{JudgesRightly};
+ghost use Rattle.check_sheets.specs.CheckSheets.{answered as answeredCheck, filled as filledCheck, ByVerdict};
 ghost use Rattle.fenomirask.specs.Numbers.{Fits};
 use answered::Answered;
 use debray_allocator::State;
@@ -61,9 +60,9 @@ pub extern "C" fn fenomirask_events(sheet: &[u8], out: &mut [u8]) -> i64
 // The answer to a check sheet.
 #[no_mangle]
 pub extern "C" fn fenomirask_check(sheet: &[u8], out: &mut [u8]) -> i64
-    ensures { λ r. ⌜ r ≡ numberOf (answeredCheck (now (sheet .entry)) (length (now (out .entry)))) ⌝ }
-    ensures { λ _. ⌜ now (out .exit) ≡ filledCheck (now (sheet .entry)) (now (out .entry)) ⌝ }
-    ensures { λ _. ⌜ JudgesRightly (now (sheet .entry)) (now (out .entry)) (now (out .exit)) ⌝ }
+    ensures { λ r. ⌜ ByVerdict (now (sheet .entry)) (λ right.
+        (r ≡ numberOf (answeredCheck right (now (sheet .entry)) (length (now (out .entry)))))
+        × (now (out .exit) ≡ filledCheck right (now (sheet .entry)) (now (out .entry)))) ⌝ }
 {
     let answered = check_sheets::answer(sheet, out);
     number_of(answered)

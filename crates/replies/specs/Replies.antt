@@ -1,6 +1,7 @@
 -- What is printed of a sheet: its answer, or only `no`, line, number.
 use Prim.Native.Nat.{ℕ, _≤_}
 use mathlib.Core.Path.{_≡_}
+use mathlib.Core.Bool.{Bool}
 use mathlib.Core.List.{List, [], _∷_}
 use Rattle.notation.specs.Text.{bytes}
 use Rattle.sizes.specs.Sizes.{largestNumber}
@@ -10,7 +11,7 @@ use Rattle.instructions.specs.Instructions.{line}
 use Rattle.answered.specs.declared.Answered.{Answered}
 use Rattle.answered.specs.declared.Answered.the-variants.{Written, Refused}
 use Rattle.event_sheets.specs.EventSheets.{sheetRan, answered as eventsAnswered}
-use Rattle.check_sheets.specs.CheckSheets.{reading, textOf, answered as checkAnswered}
+use Rattle.check_sheets.specs.CheckSheets.{wordOf, answered as checkAnswered}
 
 unfoldable pub refusalText : ℕ → ℕ → List ℕ
 refusalText number refusal = line (bytes "no" ∷ decimal number ∷ decimal refusal ∷ [])
@@ -23,8 +24,8 @@ replied (Refused number refusal) text = refusalText number refusal
 unfoldable pub eventReply : List ℕ → ℕ → List ℕ
 eventReply sheet room = replied (eventsAnswered sheet room) (sheetRan sheet .text)
 
-unfoldable pub checkReply : List ℕ → ℕ → List ℕ
-checkReply sheet room = replied (checkAnswered sheet room) (textOf (reading sheet))
+unfoldable pub checkReply : Bool → List ℕ → ℕ → List ℕ
+checkReply right sheet room = replied (checkAnswered right sheet room) (wordOf right)
 
 -- ---- On the way: an answer whose lent bytes are filled already
 

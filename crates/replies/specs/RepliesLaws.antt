@@ -1,6 +1,7 @@
 -- Laws of replies: what stands in the lent bytes, for both kinds of sheet.
 use Prim.Native.Nat.{ℕ, _+_, _≤_}
 use mathlib.Core.Path.{_≡_, refl, sym, subst}
+use mathlib.Core.Bool.{Bool}
 use mathlib.Core.List.{List, _++_}
 use native.Mathlib.Nat.{zero-add}
 use native.Mathlib.Omega.{arith}
@@ -82,13 +83,14 @@ module _ (sheet out : List ℕ) {a : Answered} where
   event-put {left} {next} {after} e fills told =
       answered-put (events.sheetRan sheet .text) out (events.answered sheet (length out)) (events-within sheet (length out)) e left next after fills told
 
-  pub check-printable : a ≡ check.answered sheet (length out) → Printable a
-  check-printable e = answered-printable (check.textOf (check.reading sheet)) out (check.answered sheet (length out)) (check-within sheet (length out)) e
+  pub check-printable : (right : Bool) → a ≡ check.answered right sheet (length out) → Printable a
+  check-printable right e = answered-printable (check.wordOf right) out (check.answered right sheet (length out)) (check-within right sheet (length out)) e
 
   pub check-put :
-      {left : List ℕ} {next : ℕ} {after : List ℕ} → a ≡ check.answered sheet (length out) → left ≡ check.filled sheet out
+      {left : List ℕ} {next : ℕ} {after : List ℕ} (right : Bool)
+      → a ≡ check.answered right sheet (length out) → left ≡ check.filled right sheet out
       → Told a left next after
-      → Put out 0 (checkReply sheet (length out)) next after
+      → Put out 0 (checkReply right sheet (length out)) next after
   unfolding checkReply check.filled
-  check-put {left} {next} {after} e fills told =
-      answered-put (check.textOf (check.reading sheet)) out (check.answered sheet (length out)) (check-within sheet (length out)) e left next after fills told
+  check-put {left} {next} {after} right e fills told =
+      answered-put (check.wordOf right) out (check.answered right sheet (length out)) (check-within right sheet (length out)) e left next after fills told

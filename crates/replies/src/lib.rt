@@ -1,6 +1,7 @@
 // What is printed of a sheet: its answer, or only the line of its refusal.
 ghost use lib.ListN.{length};
 ghost use Rattle.printing.specs.Printing.{Put};
+ghost use Rattle.check_sheets.specs.CheckSheets.{ByVerdict};
 ghost use Rattle.replies.specs.Replies.{
   refusalText,
   eventReply,
@@ -44,7 +45,8 @@ pub fn put_event_reply(sheet: &[u8], out: &mut [u8]) -> usize
 
 // What is printed of a check sheet. The lent bytes are the room of its answer.
 pub fn put_check_reply(sheet: &[u8], out: &mut [u8]) -> usize
-    ensures { λ r. ⌜ Put (now (out .entry)) 0 (checkReply (now (sheet .entry)) (length (now (out .entry)))) r (now (out .exit)) ⌝ }
+    ensures { λ r. ⌜ ByVerdict (now (sheet .entry)) (λ right.
+        Put (now (out .entry)) 0 (checkReply right (now (sheet .entry)) (length (now (out .entry)))) r (now (out .exit))) ⌝ }
 {
     let answered = check_sheets::answer(sheet, out);
     put_told(answered, out)

@@ -1,6 +1,7 @@
 -- `replies::put_check_reply`: what is told of the answer is the reply. Assumes nothing.
 use denote.Ref.{now}
 use borrow.Author.Needs.{needs}
+use Rattle.check_sheets.specs.TellsLaws.{by-verdict-so}
 use Rattle.replies.specs.RepliesLaws.{check-printable, check-put}
 use Rattle.replies.proofs.put_check_reply.Statement.{statement}
 use Rattle.replies.proofs.put_check_reply.Tie as tie
@@ -12,7 +13,7 @@ put-told-requires : tie.Need-put-told-requires
 put-told-requires c κs =
     let answered = c .before .before .before in
     let a = answered .before .before .before .before .args in
-    check-printable (now (a .sheet)) (now (a .out)) (answered .answer .ensures .0)
+    check-printable (now (a .sheet)) (now (a .out)) (answered .answer .ensures .right) (answered .answer .ensures .holds .0)
 
 same-length : tie.Need-same-length
 same-length c = search needs
@@ -21,7 +22,9 @@ returns : tie.Need-returns
 returns c =
     let answered = c .before .before .before .before .before .before in
     let a = answered .before .before .before .before .args in
-    check-put (now (a .sheet)) (now (a .out)) (answered .answer .ensures .0) (answered .answer .ensures .1 .0) (c .before .before .put-told .ensures)
+    by-verdict-so
+    (answered .answer .ensures)
+    (λ right by. check-put (now (a .sheet)) (now (a .out)) right (by .0) (by .1) (c .before .before .put-told .ensures))
 
 pub put-check-reply-spec : {M : Type 1} → statement M
 put-check-reply-spec = tie.close (tie.spec answer-requires put-told-requires same-length returns)
