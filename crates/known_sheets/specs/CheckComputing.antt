@@ -8,28 +8,27 @@ use Rattle.split.specs.Split.{split, inFront}
 use Rattle.words.specs.Words.{same, codeAmong}
 use Rattle.numbers.specs.Numbers.{isDigit, allDigits, valueFrom, needlessZero, isNumber, numberOf}
 use Rattle.steps.specs.declared.CheckLine.{CheckLine}
-use Rattle.steps.specs.declared.Order.{Order}
-use Rattle.steps.specs.declared.Judged.{Judged}
-use Rattle.steps.specs.Steps.{isPutOrSet, isGetValueOrUnify, takesNumber, headTooLate, misplaced, instructionOutOfOrder, refusalOf, judgedAs, judged, refusalAtEnd}
+use Rattle.steps.specs.Steps.{stepsOf, instructionsOf, pastHead, inGoal, numberTaken, isUncalled, refusalOf}
+use Rattle.steps.specs.Order.{misplacedUnder, refusalBy, judgedAs, judged}
 use Rattle.check_lines.specs.declared.Line.{Line}
 use Rattle.check_lines.specs.Codes.{wordCode, noField, deepStep, argumentStep, argumentInstruction, placeInstruction}
 use Rattle.check_lines.specs.CheckLines.{fieldOf, saidBy, fieldsSay, lineSays}
 use Rattle.classes.specs.Classes.{pairsOf, bothNames, labelOf, exchanged, joined, labelsAfter, ownLabels, labelling, allSame}
 use Rattle.symbolic.specs.Symbolic.{pushed, listed, valueOf, again, claimed, carriedAll}
 use Rattle.verdict.specs.Verdict.{sameSubterms, decidedBy}
-use Rattle.check_sheets.specs.CheckSheets.{verdict}
+use Rattle.check_sheets.specs.Running.{verdict}
 
 -- a line read
 unfoldable pub checkLineRead : List ℕ → Line
 unfolding lineSays fieldsSay saidBy fieldOf wordCode codeAmong noField deepStep argumentStep argumentInstruction placeInstruction isDigit allDigits valueFrom needlessZero isNumber numberOf same split inFront
 checkLineRead bytes = lineSays bytes
 
--- its order judged
-unfoldable pub lineJudged : Order → CheckLine → Judged
-unfolding judged judgedAs refusalOf isPutOrSet isGetValueOrUnify takesNumber headTooLate misplaced instructionOutOfOrder refusalAtEnd has inserted
-lineJudged order line = judged order line
+-- its refusal behind the lines before it
+unfoldable pub lineRefusal : List CheckLine → CheckLine → ℕ
+unfolding refusalOf stepsOf instructionsOf pastHead inGoal numberTaken isUncalled
+lineRefusal earlier line = refusalOf earlier line
 
 -- the verdict on all lines
 unfoldable pub linesDecided : List CheckLine → Bool
-unfolding verdict decidedBy sameSubterms carriedAll claimed again valueOf listed pushed pairsOf bothNames labelOf exchanged joined labelsAfter ownLabels labelling allSame numbersFrom
+unfolding verdict judged judgedAs refusalBy misplacedUnder has inserted decidedBy sameSubterms carriedAll claimed again valueOf listed pushed pairsOf bothNames labelOf exchanged joined labelsAfter ownLabels labelling allSame numbersFrom
 linesDecided lines = verdict lines

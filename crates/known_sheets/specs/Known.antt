@@ -11,7 +11,7 @@ use Rattle.debray_allocator.specs.State.{freshState}
 use Rattle.answered.specs.declared.Answered.{Answered}
 use Rattle.answered.specs.declared.Answered.the-variants.{Written}
 use Rattle.event_sheets.specs.EventSheets.{lineAnswer, answered as eventsAnswered, filled as eventsFilled}
-use Rattle.check_sheets.specs.CheckSheets.{answered as checkAnswered, filled as checkFilled}
+use Rattle.check_sheets.specs.CheckSheets.{ByVerdict, answered as checkAnswered, filled as checkFilled}
 
 -- the state after the lines of a sheet
 unfoldable pub stateAfter : State → List (List ℕ) → State
@@ -37,7 +37,8 @@ Answers answered filled sheet text =
 
 abbrev pub Holds : Known → Type 0
 Holds (eventSheet sheet text) = Answers eventsAnswered eventsFilled (bytes sheet) (bytes text)
-Holds (checkSheet sheet text) = Answers checkAnswered checkFilled (bytes sheet) (bytes text)
+Holds (checkSheet sheet text) =
+    ByVerdict (bytes sheet) (λ right. Answers (checkAnswered right) (checkFilled right) (bytes sheet) (bytes text))
 Holds (noUseSets sheet sets) = take (length sets) (sheetState (bytes sheet) .«no_use») ≡ sets
 Holds (conflictSets sheet sets) = take (length sets) (sheetState (bytes sheet) .conflict) ≡ sets
 

@@ -1,4 +1,5 @@
--- The sheets with known ends that document 01 marks with P, in its order, on bytes in and bytes out.
+-- The sheets with known ends that document 01 marks with P, in its order, and more check sheets behind them, on bytes in and
+-- bytes out.
 use mathlib.Core.List.{List, [], _∷_}
 use Rattle.bit_set.specs.BitSet.{emptySet, inserted}
 use Rattle.known_sheets.specs.Known.{Known, eventSheet, checkSheet, noUseSets, conflictSets}
@@ -33,4 +34,19 @@ table =
     -- 13
     ∷ eventSheet "" "end\t1\t0\n"
     ∷ checkSheet "" "accepted\n"
+    -- a subterm of the head is read, or is not
+    ∷ checkSheet "hd\t0\nunify_variable\tx3\n" "accepted\n"
+    ∷ checkSheet "hd\t0\n" "rejected\n"
+    -- x1 is written over, and its argument is wanted once more: compared with its copy, or with itself
+    ∷ checkSheet "h\t1\t0\nget_variable\tx3\t1\nhd\t1\nunify_variable\tx1\nh\t1\t1\nget_value\tx1\t3\n" "accepted\n"
+    ∷ checkSheet "h\t1\t0\nget_variable\tx3\t1\nhd\t1\nunify_variable\tx1\nh\t1\t1\nget_value\tx1\t1\n" "rejected\n"
+    -- a subterm of a goal is its variable's value, or another
+    ∷ checkSheet "h\t1\t0\ngd\t0\nset_value\tx1\ncall\n" "accepted\n"
+    ∷ checkSheet "h\t1\t0\ngd\t0\nset_value\tx2\ncall\n" "rejected\n"
+    -- argument 2 stays until its call, or is written over
+    ∷ checkSheet "h\t1\t0\ng\t2\t0\nput_value\tx1\t2\ng\t1\t1\nput_variable\tx3\t1\ncall\n" "accepted\n"
+    ∷ checkSheet "h\t1\t0\ng\t2\t0\nput_value\tx1\t2\ng\t1\t1\nput_variable\tx2\t1\ncall\n" "rejected\n"
+    -- a variable leaves x2 for x5, or for x1, where an argument is loaded already: docs/FOUND.md, A
+    ∷ checkSheet "h\t2\t0\ng\t1\t1\nput_variable\tx3\t1\ng\t2\t2\nget_variable\tx5\t2\nput_variable\tx4\t2\ncall\n" "accepted\n"
+    ∷ checkSheet "h\t2\t0\ng\t1\t1\nput_variable\tx3\t1\ng\t2\t2\nget_variable\tx1\t2\nput_variable\tx4\t2\ncall\n" "rejected\n"
     ∷ []
