@@ -82,12 +82,12 @@ filled right sheet out = filledBy (answered right sheet (length out)) (wordOf ri
 
 -- ---- Whether the instructions are right
 
--- true exactly when they are; of a sheet that is refused, false
+-- `right` is true exactly when the instructions of a sheet are right; of a sheet that is refused it is false
 abbrev pub Tells : Bool → Reading → Type 0
 Tells right (bad number refusal) = right ≡ false
 Tells right (reads lines) = (right ≡ true) ↔ Right lines
 
--- what holds where that is told
+-- something holds of the one `right` that tells so of a sheet
 pub record ByVerdict (sheet : List ℕ) (Holds : Bool → Type 0) : Type 0 where
   pub right : Bool
   pub tells : Tells right (reading sheet)

@@ -115,7 +115,7 @@ unfoldable pub numberTaken : List Instruction → Bool
 numberTaken [] = false
 numberTaken (instruction ∷ earlier) = numberTaken earlier || takesNumber instruction
 
--- or two of `put_variable`, `set_variable` and Unify in one step
+-- a line out of order: these, or two of `put_variable`, `set_variable` and Unify in one step
 abbrev pub isOutOfOrder : List CheckLine → CheckLine → Bool
 isOutOfOrder earlier (Begins step) = stepOutOfOrder (stepsOf earlier) step
 isOutOfOrder earlier (Does instruction) =
