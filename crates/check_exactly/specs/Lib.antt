@@ -1,1 +1,3 @@
+pub mod Exactly
+pub mod ReadingLaws
 pub mod NoSecondCheckLaws
