@@ -80,6 +80,9 @@ abbrev pub AllRead : List ℕ → List CheckLine → Type 0
 AllRead sheet lines =
     Behind sheet (λ count earlier rest. (lines ≡ reverse earlier) × Ended rest × (isUncalled (stepsOf earlier) ≡ false))
 
+abbrev pub IsRead : List ℕ → Type 0
+IsRead sheet = (lines : List CheckLine) × AllRead sheet lines
+
 -- ---- What a line that is read as text is refused for: 2, 3, then 7
 
 abbrev pub SaysThat : (List CheckLine → CheckLine → Type 0) → List CheckLine → Line → Type 0
