@@ -16,7 +16,8 @@ use Rattle.check_lines.specs.CheckLines.{lineSays}
 
 -- ---- The lines that are read
 
--- so many lines of a sheet are read: each has its LF, says a line and is accepted behind those before it; and the parts behind them
+-- how many lines of a sheet are read, what they say, and the parts behind them: each has its LF, says a line and is accepted
+-- behind those before it
 pub data ReadSoFar (sheet : List ℕ) : ℕ → List CheckLine → List (List ℕ) → Type 0 where
   none : ReadSoFar sheet 0 [] (split lineFeed sheet)
   more :
@@ -26,7 +27,7 @@ pub data ReadSoFar (sheet : List ℕ) : ℕ → List CheckLine → List (List �
       → refusalOf earlier line ≡ accepted
       → ReadSoFar sheet (suc count) (line ∷ earlier) (next ∷ parts)
 
--- somewhere in a sheet, behind lines that are read, this holds of their count, of what they say and of the parts behind them
+-- behind lines that are read this holds of those three
 pub record Behind (sheet : List ℕ) (Holds : ℕ → List CheckLine → List (List ℕ) → Type 0) : Type 0 where
   pub count : ℕ
   pub earlier : List CheckLine
@@ -66,6 +67,7 @@ UncalledAt sheet number = Behind sheet (λ count earlier rest. (number ≡ count
 
 -- ---- The first bad line, or all lines
 
+-- 1, or the number that the lines before it give it
 abbrev pub RefusedBy : ℕ → List CheckLine → Line → Type 0
 RefusedBy refusal earlier Malformed = refusal ≡ refusedForm
 RefusedBy refusal earlier (Says line) = (1 ≤ refusal) × (refusal ≡ refusalOf earlier line)
@@ -76,6 +78,7 @@ FirstBad sheet number refusal =
     ⊎ ((refusal ≡ refusedForm) × UnendedAt sheet number)
     ⊎ ((refusal ≡ refusedOrder) × UncalledAt sheet number)
 
+-- `lines` are in the sheet's order, and no `call` is missing
 abbrev pub AllRead : List ℕ → List CheckLine → Type 0
 AllRead sheet lines =
     Behind sheet (λ count earlier rest. (lines ≡ reverse earlier) × Ended rest × (isUncalled (stepsOf earlier) ≡ false))
@@ -83,7 +86,7 @@ AllRead sheet lines =
 abbrev pub IsRead : List ℕ → Type 0
 IsRead sheet = (lines : List CheckLine) × AllRead sheet lines
 
--- ---- What a line that is read as text is refused for: 2, 3, then 7
+-- ---- What a line that says something is refused for: 2, 3, then 7
 
 abbrev pub SaysThat : (List CheckLine → CheckLine → Type 0) → List CheckLine → Line → Type 0
 SaysThat Holds earlier Malformed = ⊥

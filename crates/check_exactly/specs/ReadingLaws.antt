@@ -71,7 +71,7 @@ module _ {sheet : List ℕ} {count : ℕ} {earlier : List CheckLine} where
   unended-decides : (rest : List (List ℕ)) → ReadSoFar sheet count earlier rest → Unended rest → reading sheet ≡ bad (suc count) refusedForm
   unfolding readFrom lastRead
   unended-decides [] read some = absurd some
-  unended-decides (left ∷ []) read some = read-behind read ∙ simp (lt-ltb 0 (length left) some)
+  unended-decides (left ∷ []) read some = read-behind read ∙ simp (lt-ltb 0 (length left) (omega arith))
   unended-decides (text ∷ (next ∷ parts)) read some = absurd some
 
   module _ {rest : List (List ℕ)} (read : ReadSoFar sheet count earlier rest) (ended : Ended rest) where
