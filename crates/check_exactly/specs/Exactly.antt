@@ -6,8 +6,10 @@ use mathlib.Core.Bool.{true, false}
 use mathlib.Core.Logic.{_⊎_}
 use mathlib.Core.List.{List, [], _∷_, reverse}
 use lib.ListN.{length}
-use Rattle.refusals.specs.Refusals.{accepted, refusedForm, refusedOrder}
+use Rattle.refusals.specs.Refusals.{accepted, refusedForm, refusedOrder, refusedSize, refusedFull, refusedRoom}
 use Rattle.split.specs.Split.{lineFeed, split}
+use Rattle.answered.specs.declared.Answered.{Answered}
+use Rattle.answered.specs.declared.Answered.the-variants.{Written, Refused}
 use Rattle.steps.specs.declared.CheckLine.{CheckLine}
 use Rattle.steps.specs.Steps.{stepsOf, isOutOfOrder, isUncalled, fits, isFull, refusalOf}
 use Rattle.check_lines.specs.declared.Line.{Line}
@@ -100,3 +102,12 @@ OutOfSize earlier line = (isOutOfOrder earlier line ≡ false) × (fits line ≡
 
 abbrev pub TooMany : List CheckLine → CheckLine → Type 0
 TooMany earlier line = (isOutOfOrder earlier line ≡ false) × (fits line ≡ true) × (isFull earlier line ≡ true)
+
+-- ---- What is ever given: 1, 2, 3 and 7, and 9 to a sheet as a whole
+
+abbrev pub GivenToLines : ℕ → Type 0
+GivenToLines refusal = (1 ≤ refusal) × ((refusal ≤ refusedSize) ⊎ (refusal ≡ refusedFull))
+
+abbrev pub GivenBy : Answered → Type 0
+GivenBy (Written count) = Unit {0}
+GivenBy (Refused line refusal) = GivenToLines refusal ⊎ ((line ≡ 0) × (refusal ≡ refusedRoom))

@@ -1,8 +1,8 @@
--- What a line is given each refusal for, both ways; and within which bounds a bad line and its refusal are.
+-- What a line is given each refusal for, both ways; and which numbers a bad line and its refusal can have.
 use Prim.Native.Nat.{ℕ, _≤_}
 use mathlib.Core.Path.{_≡_, refl, sym}
 use mathlib.Core.Bool.{Bool, true, false, not, true≢false, false≢true}
-use mathlib.Core.Logic.{_↔_, _≢_, ⊎-elim}
+use mathlib.Core.Logic.{_↔_, _≢_, _⊎_, inl, inr, ⊎-elim}
 use mathlib.Core.List.{List, [], _∷_}
 use native.Mathlib.Omega.{arith}
 use Rattle.notation.specs.ChoiceLaws.{either}
@@ -12,7 +12,7 @@ use Rattle.steps.specs.Steps.{stepsOf, isOutOfOrder, isUncalled, fits, isFull, 
 use Rattle.check_lines.specs.declared.Line.{Line}
 use Rattle.check_lines.specs.declared.Line.the-variants.{Malformed, Says}
 use Rattle.check_lines.specs.CheckLines.{lineSays}
-use Rattle.check_exactly.specs.Exactly.{ReadSoFar, none, more, LineThat, RefusedBy, FirstBad, SaysThat, OutOfOrder, OutOfSize, TooMany}
+use Rattle.check_exactly.specs.Exactly.{ReadSoFar, none, more, LineThat, RefusedBy, FirstBad, SaysThat, OutOfOrder, OutOfSize, TooMany, GivenToLines}
 
 -- ---- What a line is refused for
 
@@ -39,10 +39,10 @@ form-never a b c =
     let never : (n : ℕ) → Type 0 = λ n. n ≢ refusedForm in
     either never a (λ e. omega arith) (either never (not b) (λ e. omega arith) (either never c (λ e. omega arith) (λ e. omega arith)))
 
-at-most-full : (a b c : Bool) → firstOf a b c ≤ refusedFull
-at-most-full a b c =
-    let small : (n : ℕ) → Type 0 = λ n. n ≤ refusedFull in
-    either small a (omega arith) (either small (not b) (omega arith) (either small c (omega arith) (omega arith)))
+none-between : (a b c : Bool) → (firstOf a b c ≤ refusedSize) ⊎ (firstOf a b c ≡ refusedFull)
+none-between a b c =
+    let given : (n : ℕ) → Type 0 = λ n. (n ≤ refusedSize) ⊎ (n ≡ refusedFull) in
+    either given a (inl (omega arith)) (either given (not b) (inl (omega arith)) (either given c (inr refl) (inl (omega arith))))
 
 -- each number by what it is given for
 abbrev pub By : ℕ → (List CheckLine → Line → Type 0) → Type 0
@@ -85,27 +85,24 @@ unfolding stepsOf isUncalled
 uncalled-some none uncalled = absurd (false≢true uncalled)
 uncalled-some (more read says good) uncalled = omega arith
 
-abbrev Bounds : ℕ → Type 0
-Bounds refusal = (1 ≤ refusal) × (refusal ≤ refusedFull)
-
-refused-bounds : (refusal : ℕ) (earlier : List CheckLine) (said : Line) → RefusedBy refusal earlier said → Bounds refusal
+refused-given : (refusal : ℕ) (earlier : List CheckLine) (said : Line) → RefusedBy refusal earlier said → GivenToLines refusal
 unfolding refusalOf
-refused-bounds refusal earlier Malformed form = (omega arith, omega arith)
-refused-bounds refusal earlier (Says line) given =
-    (given .0, omega (arith, given .1, at-most-full (isOutOfOrder earlier line) (fits line) (isFull earlier line)))
+refused-given refusal earlier Malformed form = (omega arith, inl (omega arith))
+refused-given refusal earlier (Says line) given =
+    (given .0, rw (given .1) (none-between (isOutOfOrder earlier line) (fits line) (isFull earlier line)))
 
-line-bounds : (refusal : ℕ) (earlier : List CheckLine) (rest : List (List ℕ)) → LineThat (RefusedBy refusal earlier) rest → Bounds refusal
-line-bounds refusal earlier [] holds = absurd holds
-line-bounds refusal earlier (left ∷ []) holds = absurd holds
-line-bounds refusal earlier (text ∷ (next ∷ parts)) holds = refused-bounds refusal earlier (lineSays text) holds
+line-given : (refusal : ℕ) (earlier : List CheckLine) (rest : List (List ℕ)) → LineThat (RefusedBy refusal earlier) rest → GivenToLines refusal
+line-given refusal earlier [] holds = absurd holds
+line-given refusal earlier (left ∷ []) holds = absurd holds
+line-given refusal earlier (text ∷ (next ∷ parts)) holds = refused-given refusal earlier (lineSays text) holds
 
-pub bad-bounds : {sheet : List ℕ} {number refusal : ℕ} → FirstBad sheet number refusal → (1 ≤ number) × Bounds refusal
-bad-bounds {refusal = refusal} =
+pub bad-given : {sheet : List ℕ} {number refusal : ℕ} → FirstBad sheet number refusal → (1 ≤ number) × GivenToLines refusal
+bad-given {refusal = refusal} =
     ⊎-elim
-    (λ at. (omega (arith, at .holds .0), line-bounds refusal (at .earlier) (at .rest) (at .holds .1)))
+    (λ at. (omega (arith, at .holds .0), line-given refusal (at .earlier) (at .rest) (at .holds .1)))
     (⊎-elim
-    (λ told. (omega (arith, told .1 .holds .0), (omega (arith, told .0), omega (arith, told .0))))
+    (λ told. (omega (arith, told .1 .holds .0), (omega (arith, told .0), inl (omega (arith, told .0)))))
     (λ told. (
       omega (arith, told .1 .holds .0, uncalled-some (told .1 .read) (told .1 .holds .2)),
-      (omega (arith, told .0), omega (arith, told .0)),
+      (omega (arith, told .0), inl (omega (arith, told .0))),
     )))

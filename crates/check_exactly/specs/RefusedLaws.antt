@@ -12,15 +12,15 @@ use Rattle.notation.specs.ChoiceLaws.{either, by-test}
 use Rattle.refusals.specs.Refusals.{refusedForm, refusedOrder, refusedSize, refusedFull, refusedRoom}
 use Rattle.sizes.specs.Sizes.{sheetBytes}
 use Rattle.answered.specs.declared.Answered.{Answered}
-use Rattle.answered.specs.declared.Answered.the-variants.{Refused}
+use Rattle.answered.specs.declared.Answered.the-variants.{Written, Refused}
 use Rattle.answered.specs.NumberLaws.{lineIn, refusalIn, TellsApart, small-told, roomless}
 use Rattle.steps.specs.declared.CheckLine.{CheckLine}
 use Rattle.check_lines.specs.declared.Line.{Line}
 use Rattle.check_lines.specs.declared.Line.the-variants.{Malformed}
 use Rattle.check_lines.specs.CheckLines.{lineSays}
 use Rattle.check_sheets.specs.CheckSheets.{Reading, bad, reads, reading, wordOf, roomed, answeredBy, answered}
-use Rattle.check_exactly.specs.Exactly.{LineThat, LineAt, UnendedAt, UncalledAt, FirstBad, IsRead, SaysThat, OutOfOrder, OutOfSize, TooMany}
-use Rattle.check_exactly.specs.LineRefusedLaws.{By, form-by, order-by, size-by, full-by, bad-bounds}
+use Rattle.check_exactly.specs.Exactly.{LineThat, LineAt, UnendedAt, UncalledAt, FirstBad, IsRead, SaysThat, OutOfOrder, OutOfSize, TooMany, GivenBy}
+use Rattle.check_exactly.specs.LineRefusedLaws.{By, form-by, order-by, size-by, full-by, bad-given}
 use Rattle.check_exactly.specs.ReadingLaws.{bad-exactly, reads-exactly}
 
 -- ---- The answer to a sheet that is short enough
@@ -157,7 +157,7 @@ module _ (right : Bool) (sheet : List ℕ) (room : ℕ) where
   whole-only :
       {refusal : ℕ} → 1 ≤ refusal → (r : Reading) → reading sheet ≡ r → answeredBy right r room ≡ Refused 0 refusal
       → (refusal ≡ refusedRoom) × Roomless
-  whole-only some (bad number given) e same = absurd (omega (arith, bad-bounds (bad-exactly sheet number given .0 e) .0, ap lineIn same))
+  whole-only some (bad number given) e same = absurd (omega (arith, bad-given (bad-exactly sheet number given .0 e) .0, ap lineIn same))
   whole-only some (reads lines) e same =
       let told = roomed-exactly right room some .0 same in
       (told .0, ((lines, reads-exactly sheet lines .0 e), told .1))
@@ -187,13 +187,22 @@ module _ (right : Bool) (sheet : List ℕ) (room : ℕ) where
 
 -- ---- No other refusal is given
 
-reading-tells : (right : Bool) (sheet : List ℕ) (room : ℕ) (r : Reading) → reading sheet ≡ r → TellsApart (answeredBy right r room)
+reading-gives : (right : Bool) (sheet : List ℕ) (room : ℕ) (r : Reading) → reading sheet ≡ r → GivenBy (answeredBy right r room)
 unfolding roomed
-reading-tells right sheet room (bad number refusal) e =
-    let bounds = bad-bounds (bad-exactly sheet number refusal .0 e) .1 in (bounds .0, small-told (bounds .1))
-reading-tells right sheet room (reads lines) e = either TellsApart (ltb room (length (wordOf right))) roomless tt
+reading-gives right sheet room (bad number refusal) e = inl (bad-given (bad-exactly sheet number refusal .0 e) .1)
+reading-gives right sheet room (reads lines) e = either GivenBy (ltb room (length (wordOf right))) (inr (refl, refl)) tt
 
-pub check-tells : (right : Bool) (sheet : List ℕ) (room : ℕ) → TellsApart (answered right sheet room)
-unfolding answered
-check-tells right sheet room =
-    either TellsApart (ltb sheetBytes (length sheet)) (omega arith, (omega arith, omega arith)) (reading-tells right sheet room (reading sheet) refl)
+given-tells : (a : Answered) → GivenBy a → TellsApart a
+given-tells (Written count) given = tt
+given-tells (Refused line refusal) given =
+    ⊎-elim (λ few. (few .0, small-told (⊎-elim (λ h. omega arith) (λ h. omega arith) (few .1)))) (λ room. rw (room .1) roomless) given
+
+module _ (right : Bool) (sheet : List ℕ) (room : ℕ) where
+  pub check-gives : GivenBy (answered right sheet room)
+  unfolding answered
+  check-gives =
+      either GivenBy (ltb sheetBytes (length sheet)) (inl (omega arith, inr refl)) (reading-gives right sheet room (reading sheet) refl)
+
+  -- so the number for a host tells the line and the refusal
+  pub check-tells : TellsApart (answered right sheet room)
+  check-tells = given-tells (answered right sheet room) check-gives
