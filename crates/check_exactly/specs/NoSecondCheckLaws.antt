@@ -1,9 +1,11 @@
 -- No second answer to a check sheet fits: what meets a contract of the check side is settled.
 use Prim.Native.Nat.{ℕ}
-use mathlib.Core.Path.{_≡_, ap, sym, _∙_}
+use mathlib.Core.Path.{_≡_, sym, subst}
 use mathlib.Core.Bool.{Bool}
 use mathlib.Core.List.{List}
-use Rattle.notation.specs.EquationLaws.{no-second-part}
+use Rattle.notation.specs.EquationLaws.{no-second, no-second-part}
+use Rattle.printing.specs.Printing.{Put}
+use Rattle.printing.specs.PrintingLaws.{put-unique}
 use Rattle.symbolic.specs.declared.Counts.{Counts}
 use Rattle.symbolic.specs.declared.Taken.{Taken}
 use Rattle.symbolic.specs.Symbolic.{Symbols, Taking}
@@ -13,18 +15,40 @@ use Rattle.check_sheets.specs.TellsLaws.{tells-once}
 
 -- ---- Of one sheet there is one verdict: what is told by it is told by it alone
 
--- `check_sheets`: answer; `fenomirask`: fenomirask_check; `replies`: put_check_reply
 pub by-verdict-unique :
     {sheet : List ℕ} {Holds Other : Bool → Type 0} (first : ByVerdict sheet Holds) (second : ByVerdict sheet Other)
     → first .right ≡ second .right
 by-verdict-unique {sheet} first second = tells-once (reading sheet) (first .tells) (second .tells)
 
--- so is an answer, which is a function of it
-pub by-verdict-settled :
-    {sheet : List ℕ} {A : Type 0} {x y : A} {meaning : Bool → A}
-    → ByVerdict sheet (λ right. x ≡ meaning right) → ByVerdict sheet (λ right. y ≡ meaning right) → x ≡ y
-by-verdict-settled {meaning = meaning} first second =
-    first .holds ∙ ap meaning (by-verdict-unique first second) ∙ sym (second .holds)
+by-verdict-both :
+    {sheet : List ℕ} {Holds Other : Bool → Type 0} → ByVerdict sheet Holds → ByVerdict sheet Other
+    → ByVerdict sheet (λ right. Holds right × Other right)
+by-verdict-both {Other = Other} first second =
+    record {
+      right = first .right;
+      tells = first .tells;
+      holds = (first .holds, subst Other (sym (by-verdict-unique first second)) (second .holds));
+    }
+
+-- `check_sheets`: answer; `fenomirask`: fenomirask_check
+pub answer-settled :
+    {sheet : List ℕ} {A B : Type 0} {x x′ : A} {after after′ : B} {answer : Bool → A} {filled : Bool → B}
+    → ByVerdict sheet (λ right. (x ≡ answer right) × (after ≡ filled right))
+    → ByVerdict sheet (λ right. (x′ ≡ answer right) × (after′ ≡ filled right))
+    → (x ≡ x′) × (after ≡ after′)
+answer-settled first second =
+    let both = by-verdict-both first second .holds in
+    (no-second (both .0 .0) (both .1 .0), no-second (both .0 .1) (both .1 .1))
+
+-- `replies`: put_check_reply
+pub reply-settled :
+    {sheet out : List ℕ} {at next next′ : ℕ} {after after′ : List ℕ} {text : Bool → List ℕ}
+    → ByVerdict sheet (λ right. Put out at (text right) next after)
+    → ByVerdict sheet (λ right. Put out at (text right) next′ after′)
+    → (next ≡ next′) × (after ≡ after′)
+reply-settled first second =
+    let both = by-verdict-both first second .holds in
+    put-unique (both .0) (both .1)
 
 -- ---- Eight tables, result
 

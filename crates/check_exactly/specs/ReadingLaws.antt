@@ -16,7 +16,7 @@ use Rattle.check_lines.specs.declared.Line.{Line}
 use Rattle.check_lines.specs.declared.Line.the-variants.{Malformed, Says}
 use Rattle.check_lines.specs.CheckLines.{lineSays}
 use Rattle.classes.specs.Cases.{true-or-false, less-or-not}
-use Rattle.check_sheets.specs.CheckSheets.{Reading, bad, reads, inFront, lastRead, lineRead, readFrom, reading}
+use Rattle.check_sheets.specs.CheckSheets.{Reading, bad, reads, withLine, lastRead, lineRead, readFrom, reading}
 use Rattle.check_exactly.specs.Exactly.{ReadSoFar, none, more, Behind, LineThat, Unended, Ended, LineAt, UnendedAt, UncalledAt, RefusedBy, FirstBad, AllRead}
 
 -- ---- Lines that are read stand in front of what is read behind them
@@ -29,14 +29,14 @@ with-none : (r : Reading) → withEarlier [] r ≡ r
 with-none (bad number refusal) = refl
 with-none (reads lines) = refl
 
-with-more : (line : CheckLine) (earlier : List CheckLine) (r : Reading) → withEarlier earlier (inFront line r) ≡ withEarlier (line ∷ earlier) r
+with-more : (line : CheckLine) (earlier : List CheckLine) (r : Reading) → withEarlier earlier (withLine line r) ≡ withEarlier (line ∷ earlier) r
 with-more line earlier (bad number refusal) = refl
 with-more line earlier (reads lines) = refl
 
 line-accepted :
     (earlier : List CheckLine) (number : ℕ) {said : Line} {line : CheckLine} (others : List CheckLine → Reading)
     → said ≡ Says line → refusalOf earlier line ≡ accepted
-    → lineRead earlier number said others ≡ inFront line (others (line ∷ earlier))
+    → lineRead earlier number said others ≡ withLine line (others (line ∷ earlier))
 line-accepted earlier number others says good = simp (says, good)
 
 read-behind :
@@ -108,8 +108,8 @@ is-read sheet (bad number refusal) told = ⊎-elim line-given (⊎-elim unended-
 is-read sheet (reads lines) told = called-decides (told .read) (told .holds .1) (told .holds .2) ∙ ap reads (sym (told .holds .0))
 
 -- and they always tell some reading
-abbrev Told : List ℕ → Type 0
-Told sheet = (r : Reading) × LinesTell sheet r
+abbrev ToldByLines : List ℕ → Type 0
+ToldByLines sheet = (r : Reading) × LinesTell sheet r
 
 module _ {sheet : List ℕ} {count : ℕ} {earlier : List CheckLine} where
   here :
@@ -120,8 +120,8 @@ module _ {sheet : List ℕ} {count : ℕ} {earlier : List CheckLine} where
   line-told :
       {text next : List ℕ} {parts : List (List ℕ)} → ReadSoFar sheet count earlier (text ∷ (next ∷ parts))
       → (said : Line) → lineSays text ≡ said
-      → ((line : CheckLine) → lineSays text ≡ Says line → refusalOf earlier line ≡ accepted → Told sheet)
-      → Told sheet
+      → ((line : CheckLine) → lineSays text ≡ Says line → refusalOf earlier line ≡ accepted → ToldByLines sheet)
+      → ToldByLines sheet
   line-told read Malformed says others = (bad _ refusedForm, inl (here read (refl, rw says refl)))
   line-told read (Says line) says others =
       ⊎-elim
@@ -129,7 +129,7 @@ module _ {sheet : List ℕ} {count : ℕ} {earlier : List CheckLine} where
       (λ good. others line says (omega arith))
       (less-or-not 0 (refusalOf earlier line))
 
-  end-told : ReadSoFar sheet count earlier ([] ∷ []) → Told sheet
+  end-told : ReadSoFar sheet count earlier ([] ∷ []) → ToldByLines sheet
   end-told read =
       ⊎-elim
       (λ uncalled. (bad _ refusedOrder, inr (inr (refl, here read (refl, refl, uncalled)))))
@@ -139,14 +139,14 @@ module _ {sheet : List ℕ} {count : ℕ} {earlier : List CheckLine} where
 told-from :
     {sheet : List ℕ} {count : ℕ} {earlier : List CheckLine} (next : List ℕ) (parts : List (List ℕ))
     → ReadSoFar sheet count earlier (next ∷ parts)
-    → Told sheet
+    → ToldByLines sheet
 told-from [] [] read = end-told read
 told-from (byte ∷ left) [] read = (bad _ refusedForm, inr (inl (refl, here read (refl, omega arith))))
 told-from text (next ∷ parts) read =
     line-told read (lineSays text) refl (λ line says good. told-from next parts (more read says good))
 
 module _ (sheet : List ℕ) where
-  told : Told sheet
+  told : ToldByLines sheet
   told = told-from _ _ (subst (ReadSoFar sheet 0 []) (split-some lineFeed sheet) none)
 
   reading-exactly : (r : Reading) → (reading sheet ≡ r) ↔ LinesTell sheet r

@@ -61,17 +61,17 @@ module _ (right : Bool) (out : List ℕ) where
 
 module _ (right : Bool) (sheet out : List ℕ) where
   -- the answer and the lent bytes
-  abbrev pub Answers : Answered → List ℕ → Type 0
-  Answers a after = (a ≡ answered right sheet (length out)) × (after ≡ filled right sheet out)
+  abbrev pub AnswersBy : Answered → List ℕ → Type 0
+  AnswersBy a after = (a ≡ answered right sheet (length out)) × (after ≡ filled right sheet out)
 
-  pub sheet-full : sheetBytes < length sheet → Answers (Refused 0 refusedFull) out
+  pub sheet-full : sheetBytes < length sheet → AnswersBy (Refused 0 refusedFull) out
   unfolding answered filled
   sheet-full h = (simp (lt-ltb _ _ h), simp (lt-ltb _ _ h))
 
   read-answers :
       length sheet ≤ sheetBytes → {a : Answered} {after : List ℕ}
       → (a ≡ answeredBy right (reading sheet) (length out)) × (after ≡ filledBy (answeredBy right (reading sheet) (length out)) (wordOf right) out)
-      → Answers a after
+      → AnswersBy a after
   unfolding answered filled
   read-answers h by = simp (le-ltb _ _ h) by
 
@@ -108,14 +108,14 @@ judged-told (reads lines) out e =
 
 module _ (sheet out : List ℕ) (short : length sheet ≤ sheetBytes) {run : Run} (e : run ≡ runOf (reading sheet)) where
   pub sheet-refused :
-      {line refusal : ℕ} → run ≡ Bad line refusal → Answers (verdictOf (reading sheet)) sheet out (Refused line refusal) out
+      {line refusal : ℕ} → run ≡ Bad line refusal → AnswersBy (verdictOf (reading sheet)) sheet out (Refused line refusal) out
   sheet-refused told = read-answers (verdictOf (reading sheet)) sheet out short (bad-told (reading sheet) out (sym told ∙ e))
 
   pub sheet-judged :
       {right : Bool} {a : Answered} {after : List ℕ} → run ≡ Decided right
       → a ≡ roomed right (length out)
       → after ≡ filledBy (roomed right (length out)) (wordOf right) out
-      → Answers (verdictOf (reading sheet)) sheet out a after
+      → AnswersBy (verdictOf (reading sheet)) sheet out a after
   sheet-judged told answers fills =
       let w = judged-told (reading sheet) out (sym told ∙ e) in
       read-answers (verdictOf (reading sheet)) sheet out short (answers ∙ w .0, fills ∙ w .1)

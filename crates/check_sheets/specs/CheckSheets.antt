@@ -1,4 +1,5 @@
--- The whole answer to a check sheet, for every list of bytes and every room.
+-- The whole answer to a check sheet, for every list of bytes and every room. Lines that stand before are listed with the last
+-- one first.
 use Prim.Native.Nat.{ℕ, suc, _-_}
 use mathlib.Core.Path.{_≡_}
 use mathlib.Core.Bool.{Bool, true, false}
@@ -24,12 +25,13 @@ use Rattle.answered.specs.Answered.{filledBy}
 -- ---- Reading: the lines of a sheet, or the first bad line and its refusal
 
 pub data Reading : Type 0 where
+  -- its number, and its refusal
   bad : ℕ → ℕ → Reading
   reads : List CheckLine → Reading
 
-abbrev pub inFront : CheckLine → Reading → Reading
-inFront line (bad number refusal) = bad number refusal
-inFront line (reads lines) = reads (line ∷ lines)
+abbrev pub withLine : CheckLine → Reading → Reading
+withLine line (bad number refusal) = bad number refusal
+withLine line (reads lines) = reads (line ∷ lines)
 
 -- what stands behind the last LF is a line that has none; goal steps with no `call` after them are reported last, at the last line
 unfoldable pub lastRead : List CheckLine → ℕ → List ℕ → Reading
@@ -42,9 +44,10 @@ lastRead earlier number left =
 abbrev pub lineRead : List CheckLine → ℕ → Line → (List CheckLine → Reading) → Reading
 lineRead earlier number Malformed others = bad number refusedForm
 lineRead earlier number (Says line) others =
-    if ltb 0 (refusalOf earlier line) then bad number (refusalOf earlier line) else inFront line (others (line ∷ earlier))
+    if ltb 0 (refusalOf earlier line) then bad number (refusalOf earlier line) else withLine line (others (line ∷ earlier))
 
 unfoldable pub readFrom : List CheckLine → ℕ → List (List ℕ) → Reading
+-- no sheet has no part
 readFrom earlier number [] = reads []
 readFrom earlier number (left ∷ []) = lastRead earlier number left
 readFrom earlier number (line ∷ (next ∷ parts)) =
@@ -52,6 +55,13 @@ readFrom earlier number (line ∷ (next ∷ parts)) =
 
 unfoldable pub reading : List ℕ → Reading
 reading sheet = readFrom [] 1 (split lineFeed sheet)
+
+-- ---- Whether the instructions are right
+
+-- `right` tells it of a sheet that is read; of one with a bad line it is false, so that there is one value there too
+abbrev pub Tells : Bool → Reading → Type 0
+Tells right (bad number refusal) = right ≡ false
+Tells right (reads lines) = (right ≡ true) ↔ Right lines
 
 -- ---- The answer: length first, output last
 
@@ -80,14 +90,9 @@ answered right sheet room =
 unfoldable pub filled : Bool → List ℕ → List ℕ → List ℕ
 filled right sheet out = filledBy (answered right sheet (length out)) (wordOf right) out
 
--- ---- Whether the instructions are right
+-- ---- The verdict
 
--- `right` is true exactly when the instructions of a sheet are right; of a sheet that is refused it is false
-abbrev pub Tells : Bool → Reading → Type 0
-Tells right (bad number refusal) = right ≡ false
-Tells right (reads lines) = (right ≡ true) ↔ Right lines
-
--- something holds of the one `right` that tells so of a sheet
+-- what holds of the verdict on a sheet, the one truth value that tells whether its instructions are right
 pub record ByVerdict (sheet : List ℕ) (Holds : Bool → Type 0) : Type 0 where
   pub right : Bool
   pub tells : Tells right (reading sheet)

@@ -24,7 +24,7 @@ use Rattle.check_sheets.specs.CheckSheets.{
   Reading,
   bad,
   reads,
-  inFront,
+  withLine,
   lastRead,
   lineRead,
   readFrom,
@@ -53,7 +53,7 @@ last-bad earlier number left lines h =
           [ true ↦ omega arith | false ↦ tt ]
     ]
 
-in-front-bad : (line : CheckLine) (r : Reading) (lines : ℕ) → BadWithin lines r → BadWithin lines (inFront line r)
+in-front-bad : (line : CheckLine) (r : Reading) (lines : ℕ) → BadWithin lines r → BadWithin lines (withLine line r)
 in-front-bad line (bad number refusal) lines h = h
 in-front-bad line (reads read) lines h = tt
 
@@ -65,7 +65,7 @@ line-bad :
 line-bad earlier number Malformed others lines h later = h
 line-bad earlier number (Says line) others lines h later =
     elim (ltb 0 (refusalOf earlier line)) as
-    (λ t. BadWithin lines (if t then bad number (refusalOf earlier line) else inFront line (others (line ∷ earlier))))
+    (λ t. BadWithin lines (if t then bad number (refusalOf earlier line) else withLine line (others (line ∷ earlier))))
     [ true ↦ h | false ↦ in-front-bad line (others (line ∷ earlier)) lines (later (line ∷ earlier)) ]
 
 read-bad :

@@ -32,7 +32,7 @@ use Rattle.symbolic.specs.Symbolic.{Symbols, carried, carriedAll, Taking, takin
 use Rattle.verdict.specs.Verdict.{decided}
 use Rattle.check_sheets.specs.declared.Run.{Run}
 use Rattle.check_sheets.specs.declared.Run.the-variants.{Refused, Decided}
-use Rattle.check_sheets.specs.CheckSheets.{Reading, bad, reads, inFront, lastRead, lineRead, readFrom, reading}
+use Rattle.check_sheets.specs.CheckSheets.{Reading, bad, reads, withLine, lastRead, lineRead, readFrom, reading}
 use Rattle.check_sheets.specs.Running.{saidTaken, lineTaken, runFrom, runOf, lastRun, Going}
 
 -- ---- A line
@@ -77,7 +77,7 @@ module _ (order : Order) (few : order .steps ≤ steps) (s : Symbols) (line : Ch
 -- a line read in front of others is carried out before them
 in-front :
     (order : Order) (s : Symbols) (line : CheckLine) (r : Reading)
-    → runFrom order s (inFront line r) ≡ runFrom (judged order line .order) (carried (judged order line .order .steps) s line) r
+    → runFrom order s (withLine line r) ≡ runFrom (judged order line .order) (carried (judged order line .order .steps) s line) r
 unfolding carriedAll
 in-front order s line (bad number refusal) = refl
 in-front order s line (reads lines) = refl
@@ -108,10 +108,10 @@ module _
         let r : t .refusal ≡ refusalOf earlier line = ap (λ t. t .refusal) e ∙ taken-refusal order few s line ∙ sums-refusal order earlier summed line in
         simp (lt-ltb 0 (refusalOf earlier line) (omega arith)) (ap (bad number) (sym r))
 
-    pub record Next (t : Taking) (said : Line) : Type 0 where
-      pub now : List CheckLine
-      pub sums : Sums (t .order) now
-      pub tells : runFrom order s (lineRead earlier number said others) ≡ runFrom (t .order) (t .symbols) (others now)
+    record Next (t : Taking) (said : Line) : Type 0 where
+      now : List CheckLine
+      sums : Sums (t .order) now
+      tells : runFrom order s (lineRead earlier number said others) ≡ runFrom (t .order) (t .symbols) (others now)
 
     said-accepted : (said : Line) (t : Taking) → t ≡ saidTaken order s said → t .refusal ≤ 0 → Next t said
     said-accepted Malformed t e h = absurd (omega (arith, ap (λ t. t .refusal) e))

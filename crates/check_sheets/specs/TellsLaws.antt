@@ -21,7 +21,7 @@ use Rattle.check_lines.specs.declared.Line.the-variants.{Malformed, Says}
 use Rattle.check_lines.specs.CheckLines.{lineSays}
 use Rattle.symbolic.specs.Symbolic.{allAccepted}
 use Rattle.verdict.specs.VerdictLaws.{verdict-exactly}
-use Rattle.check_sheets.specs.CheckSheets.{Reading, bad, reads, inFront, lastRead, lineRead, readFrom, reading, Tells, ByVerdict}
+use Rattle.check_sheets.specs.CheckSheets.{Reading, bad, reads, withLine, lastRead, lineRead, readFrom, reading, Tells, ByVerdict}
 use Rattle.check_sheets.specs.Running.{verdict, verdictOf}
 
 -- ---- The lines of a sheet that is read are accepted, one after the other
@@ -32,7 +32,7 @@ Accepted order (reads lines) = allAccepted order lines ≡ true
 
 in-front-accepted :
     (order : Order) (line : CheckLine) (r : Reading) → judged order line .refusal ≡ accepted
-    → Accepted (judged order line .order) r → Accepted order (inFront line r)
+    → Accepted (judged order line .order) r → Accepted order (withLine line r)
 unfolding allAccepted
 in-front-accepted order line (bad number refusal) good others = tt
 in-front-accepted order line (reads lines) good others = simp (eq-eqb _ _ good, others)
@@ -56,7 +56,7 @@ line-accepted order earlier sums number Malformed others all = tt
 line-accepted order earlier sums number (Says line) others all =
     elim (ltb 0 (refusalOf earlier line)) as
     (λ b. ltb 0 (refusalOf earlier line) ≡ b
-    → Accepted order (if b then bad number (refusalOf earlier line) else inFront line (others (line ∷ earlier)))) [
+    → Accepted order (if b then bad number (refusalOf earlier line) else withLine line (others (line ∷ earlier)))) [
       | true ↦ λ e. tt
       | false ↦ λ e. (let h = ltb-false 0 (refusalOf earlier line) e in
           let good : judged order line .refusal ≡ accepted = omega (arith, sums-refusal order earlier sums line) in
@@ -82,7 +82,7 @@ unfolding verdict
 accepted-tells (bad number refusal) good = refl
 accepted-tells (reads lines) good = verdict-exactly lines good
 
-pub verdict-tells : (sheet : List ℕ) → Tells (verdictOf (reading sheet)) (reading sheet)
+verdict-tells : (sheet : List ℕ) → Tells (verdictOf (reading sheet)) (reading sheet)
 unfolding reading
 verdict-tells sheet = accepted-tells (reading sheet) (read-accepted (split lineFeed sheet) freshOrder [] sums-none 1)
 

@@ -23,7 +23,7 @@ unfoldable pub checkLineRead : List ℕ → Line
 unfolding lineSays fieldsSay saidBy fieldOf wordCode codeAmong noField deepStep argumentStep argumentInstruction placeInstruction isDigit allDigits valueFrom needlessZero isNumber numberOf same split inFront
 checkLineRead bytes = lineSays bytes
 
--- its refusal behind the lines before it
+-- its refusal behind the lines before it, and whether a `call` is missing at the end
 unfoldable pub lineRefusal : List CheckLine → CheckLine → ℕ
 unfolding refusalOf stepsOf instructionsOf pastHead inGoal numberTaken isUncalled
 lineRefusal earlier line = refusalOf earlier line

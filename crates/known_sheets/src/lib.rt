@@ -1,1 +1,1 @@
-// The sheets with known ends of document 01 that are proved, in one table; there is no code here.
+// Sheets with known ends that are proved, those of document 01 and more check sheets, in one table; there is no code here.

@@ -1,1 +1,2 @@
-// No second answer meets the contract of a public function: a theorem for each form of contract; there is no code here.
+// No second answer meets the contract of a public function of the event side: a theorem for each form of contract; there is no
+// code here.

@@ -1,5 +1,5 @@
 -- A line of an event sheet is given no refusal but those of its row. So no event sheet and no call is ever refused as 8, and
--- the number that a host is told tells the line and the refusal apart.
+-- each answer is one that the number for a host tells.
 use Prim.Native.Nat.{ℕ, suc, _≤_}
 use mathlib.Core.Path.{_≡_, refl}
 use mathlib.Core.Logic.{_≢_}

@@ -1,1 +1,1 @@
-// Which refusals an event sheet, a check sheet and a call are given; there is no code here.
+// Which refusals an event sheet and a call are given, and when; there is no code here.

@@ -1,4 +1,4 @@
--- What is kept of the lines so far, and what it tells of the next one: an order, which sums them up (OrderLaws).
+-- What is kept of the lines so far, and what it tells of the next one: an order, which sums them up (SumsLaws).
 use Prim.Native.Nat.{ℕ, _+_}
 use mathlib.Core.Bool.{Bool, true, false, _&&_, _||_}
 use lib.Dec.{eqb, leb}

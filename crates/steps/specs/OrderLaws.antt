@@ -28,20 +28,10 @@ none-refuses false true true h = absurd (omega arith)
 none-refuses false true false h = (refl, refl, refl)
 none-refuses false false full h = absurd (omega arith)
 
-some-refusal : (outOfOrder inSize full : Bool) → firstOf outOfOrder inSize full ≤ refusedFull
-some-refusal true inSize full = omega arith
-some-refusal false true true = omega arith
-some-refusal false true false = omega arith
-some-refusal false false full = omega arith
-
 module _ (order : Order) (line : CheckLine) where
   pub judged-refusal : judged order line .refusal ≡ refusalBy order line
   unfolding judged judgedAs
   judged-refusal = refl
-
-  pub refusal-le : judged order line .refusal ≤ refusedFull
-  unfolding judged judgedAs refusalBy
-  refusal-le = some-refusal (breaksOrder order line) (fits line) (overfills order line)
 
 module _ (order : Order) (line : CheckLine) (good : judged order line .refusal ≡ accepted) where
   passed : (breaksOrder order line ≡ false) × (fits line ≡ true) × (overfills order line ≡ false)

@@ -7,7 +7,7 @@ use lib.Dec.{eqb, leb, ltb}
 use lib.ListN.{length}
 use Rattle.notation.specs.Choice.{if_then_else_}
 use Rattle.refusals.specs.Refusals.{accepted, refusedOrder, refusedSize, refusedFull}
-use Rattle.sizes.specs.Sizes.{variables, steps, instructions, isRegister}
+use Rattle.sizes.specs.Sizes.{variables, steps as stepLines, instructions as stepInstructions, isRegister}
 use Rattle.registers.specs.declared.RegType.{RegType}
 use Rattle.registers.specs.declared.RegType.the-variants.{Temp, Perm}
 use Rattle.instructions.specs.declared.Instruction.{Instruction}
@@ -115,7 +115,7 @@ unfoldable pub numberTaken : List Instruction → Bool
 numberTaken [] = false
 numberTaken (instruction ∷ earlier) = numberTaken earlier || takesNumber instruction
 
--- a line out of order: these, or two of `put_variable`, `set_variable` and Unify in one step
+-- a step out of order; an instruction misplaced, or the second of `put_variable`, `set_variable` and Unify in its step
 abbrev pub isOutOfOrder : List CheckLine → CheckLine → Bool
 isOutOfOrder earlier (Begins step) = stepOutOfOrder (stepsOf earlier) step
 isOutOfOrder earlier (Does instruction) =
@@ -163,8 +163,8 @@ fits (Does instruction) = instructionFits instruction
 -- ---- Refused as 7: 256 step lines, `call` counted, 4 instructions a step
 
 abbrev pub isFull : List CheckLine → CheckLine → Bool
-isFull earlier (Begins step) = leb steps (length (stepsOf earlier))
-isFull earlier (Does instruction) = leb instructions (length (instructionsOf earlier))
+isFull earlier (Begins step) = leb stepLines (length (stepsOf earlier))
+isFull earlier (Does instruction) = leb stepInstructions (length (instructionsOf earlier))
 
 -- ---- 2, 3, then 7
 
