@@ -1,5 +1,5 @@
 -- Which answers a host can be told as one signed number.
-use Prim.Native.Nat.{ℕ, _+_, _^_, _≤_, _<_}
+use Prim.Native.Nat.{_+_, _^_, _≤_, _<_}
 use Rattle.sizes.specs.Sizes.{sheetBytes}
 use Rattle.answered.specs.declared.Answered.{Answered}
 use Rattle.answered.specs.declared.Answered.the-variants.{Written, Refused}

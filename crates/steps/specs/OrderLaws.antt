@@ -7,7 +7,7 @@ use lib.Dec.{eqb, ltb}
 use borrow.Author.Tests.{leb-false, ltb-true, eqb-true, eq-eqb}
 use Rattle.notation.specs.Choice.{if_then_else_}
 use Rattle.notation.specs.ChoiceLaws.{both-true}
-use Rattle.refusals.specs.Refusals.{accepted, refusedFull}
+use Rattle.refusals.specs.Refusals.{accepted}
 use Rattle.sizes.specs.Sizes.{registers, variables, steps, instructions, isRegister}
 use Rattle.sizes.specs.SizesLaws.{register-exactly}
 use Rattle.instructions.specs.declared.Instruction.{Instruction}
