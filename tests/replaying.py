@@ -1,12 +1,13 @@
 """What the scripts around the judges and the built programs share: sheets in frames, streams of sheets with their
-answers, the two kinds of sheets, and the runs of the programs on them.
+answers, the three kinds of sheets, of which a bundle is one, and the runs of the programs on them.
 
-A frame is a decimal byte count, an LF, and so many bytes. In a stream each sheet is led by a line: its kind, `events`
-or `check`, the bytes of the sheet and those of its answer; behind it stand the sheet and the answer.
+A frame is a decimal byte count, an LF, and so many bytes. In a stream each sheet is led by a line: its kind, `events`,
+`check` or `bundle`, the bytes of the sheet and those of its answer; behind it stand the sheet and the answer.
 """
 import collections
 import dataclasses
 import os
+import re
 import subprocess
 import sys
 import time
@@ -16,25 +17,20 @@ HERE = os.path.dirname(os.path.abspath(__file__))
 ROOT = os.path.dirname(HERE)
 ORACLE = os.path.join(ROOT, "oracle", "target", "release")
 DECIDER = os.path.join(ROOT, "decider", "target", "release")
+BUNDLE_CASES = os.path.join(ROOT, "oracle", "cases", "bundles.txt")
 CHECK_CASES = [os.path.join(ROOT, "decider", "cases", name) for name in ("known.txt", "examples.txt", "readings.txt")]
 # An emulator carries out the processor's copy instruction byte by byte: without it a program runs many times faster.
 ENVIRONMENT = dict(os.environ, QEMU_CPU="max,-erms")
 SHEET_BYTES = 65_536
 FALSIFIED = 300  # as many sheets stand in a stream with a falsified answer
 SHOWN = 5
-
-
-@dataclasses.dataclass
-class Kind:
-    """A kind of sheet: its word, its program, where its generator is, who judges its sheets, the words of its lines,
-    and the answers that have to come up in a run."""
-
-    word: bytes
-    program: str
-    generator: str
-    judged: Callable
-    line_words: list
-    wanted: list
+# Two bound temporaries. From there `var f d h 0` prints 21 bytes, `cut 0 0` 6 and `cut 1 0` 7; the answer has 22 more.
+BOUND = b"temp h 0 -\ntemp h 0 -\ncut 0 0\nargs 9\ncut 1 0\n"
+BOUND_PRINTS = 22
+CLAUSE = b"clause"
+CLAUSE_LINE = re.compile(rb"^clause\n", re.MULTILINE)
+# The answer to one clause of a bundle, up to its last line.
+CLAUSE_ANSWER = re.compile(rb".*?^(?:end|no)\t\d+\t\d+\n", re.DOTALL | re.MULTILINE)
 
 
 # ---- Frames and streams
@@ -108,16 +104,87 @@ def lines_read(sheet, answer):
     return [] if (line, number) == (0, 7) else lines[: line or len(lines)]
 
 
+# ---- Event sheets of a given length
+
+
+def answer_of(length):
+    """A sheet whose answer has exactly so many bytes."""
+    rest = length - BOUND_PRINTS
+    marks = (rest - 60) // 21
+    rest -= 21 * marks
+    sevens = rest % 6
+    lines = [b"var f d h 0\n"] * marks + [b"cut 0 0\n"] * ((rest - 7 * sevens) // 6) + [b"cut 1 0\n"] * sevens
+    return (BOUND + b"".join(lines)).replace(b" ", b"\t")
+
+
+def silent(length):
+    """A sheet of exactly so many bytes that prints its last line only."""
+    sixes = length % 5
+    return b"reset\n" * sixes + b"sets\n" * ((length - 6 * sixes) // 5)
+
+
+# ---- Bundles
+
+
+def faults(bundle):
+    """Why a bundle is refused as a whole, but for its answer's length: the numbers, in their order, each with a name."""
+    word = bundle.split(b"\n", 1)[0].split(b"\t", 1)[0]
+    tests = [
+        (7, "length", len(bundle) > SHEET_BYTES),
+        (1, "no LF", bundle != b"" and not bundle.endswith(b"\n")),
+        (2, "a stray line", bundle != b"" and word != CLAUSE),
+        (1, "more fields", b"\n" + CLAUSE + b"\t" in b"\n" + bundle),
+    ]
+    return [(number, name) for number, name, holds in tests if holds]
+
+
+def clauses(bundle):
+    """The clauses of a bundle without faults, each as the event sheet of its lines alone."""
+    return CLAUSE_LINE.split(bundle)[1:]
+
+
+def bundle_of(sheets):
+    """The bundle whose clauses these event sheets are."""
+    return b"".join(CLAUSE + b"\n" + sheet for sheet in sheets)
+
+
+def is_refused_whole(answer):
+    """Whether this is the refusal of a bundle; no clause is refused at line 0."""
+    return answer.startswith(b"no\t0\t")
+
+
+def told_of_bundle(answer):
+    """An answer to a bundle in short: its refusal, the first refusal of a clause, `end` where there is none, or `nothing`."""
+    if is_refused_whole(answer):
+        return told(answer)
+    ends = [told(part) for part in CLAUSE_ANSWER.findall(answer)]
+    refused = [f"a clause {end}" for end in ends if end != "end"]
+    return (refused or ends or ["nothing"])[0]
+
+
+def lines_read_of_bundle(bundle, answer):
+    """The lines that were read of each clause, and its first; none of a bundle that is refused as a whole."""
+    if is_refused_whole(answer):
+        return []
+    pairs = zip(clauses(bundle), CLAUSE_ANSWER.findall(answer), strict=True)
+    return [line for clause, part in pairs for line in (CLAUSE, *lines_read(clause, part))]
+
+
 # ---- Sheets and answers from elsewhere
 
 
-def generated(folder, seed, count):
-    return frames(output([os.path.join(folder, "generate"), "--seed", str(seed), "--count", str(count)]))
+def generated(folder, seed, count, *options):
+    return frames(output([os.path.join(folder, "generate"), "--seed", str(seed), "--count", str(count), *options]))
 
 
 def judged_events(sheets, *options):
     """The original Rust's answers to event sheets."""
     return frames(output([os.path.join(ORACLE, "oracle"), "--batch", *options], framed(sheets)))
+
+
+def judged_bundles(bundles):
+    """The answers to bundles, of which each clause is answered by the original Rust."""
+    return judged_events(bundles, "--bundle")
 
 
 def judged_check(sheets):
@@ -128,6 +195,34 @@ def judged_check(sheets):
 def check_case_sheets():
     """The sheets of the decider's case files but those that lend another room."""
     return frames(output([os.path.join(DECIDER, "cases"), "--sheets", *CHECK_CASES]))
+
+
+def bundle_case_sheets():
+    """The bundles of the judge's case file but those that lend another room."""
+    return frames(output([os.path.join(ORACLE, "cases"), "--sheets", BUNDLE_CASES]))
+
+
+# ---- The kinds
+
+
+@dataclasses.dataclass
+class Kind:
+    """A kind of sheet: its word, its program, where its generator is, who judges its sheets, the words of its lines,
+    the answers that have to come up in a run, what its generator is told besides, and how an answer is told in short and
+    the lines that were read are found."""
+
+    word: bytes
+    program: str
+    generator: str
+    judged: Callable
+    line_words: list
+    wanted: list
+    options: tuple = ()
+    told: Callable = told
+    lines_read: Callable = lines_read
+
+    def generated(self, seed, count):
+        return generated(self.generator, seed, count, *self.options)
 
 
 INSTRUCTIONS = (
@@ -153,6 +248,22 @@ CHECK = Kind(
     line_words=[*b"h hd g gd call".split(), *INSTRUCTIONS],
     wanted=["accepted", "rejected", *(f"refused {number}" for number in (1, 2, 3, 7))],
 )
+BUNDLES = Kind(
+    word=b"bundle",
+    program="bundle_sheet",
+    generator=ORACLE,
+    judged=judged_bundles,
+    line_words=[CLAUSE, *EVENTS.line_words],
+    wanted=[
+        "nothing",
+        "end",
+        *(f"a clause refused {number}" for number in (1, 2, 3, 4, 5, 6, 7)),
+        *(f"refused {number}" for number in (1, 2, 7, 9)),
+    ],
+    options=("--bundles",),
+    told=told_of_bundle,
+    lines_read=lines_read_of_bundle,
+)
 
 
 # ---- The program `replays`
@@ -171,9 +282,10 @@ def replayed(word, sheets, answers):
 
 
 def falsified(answers, at):
-    """The answers with one byte of one of them changed."""
+    """The answers with one byte of one of them changed; an empty one gets a byte."""
     answer = answers[at]
-    return answers[:at] + [answer[:-2] + bytes([answer[-2] ^ 1]) + answer[-1:]] + answers[at + 1 :]
+    changed = answer[:-2] + bytes([answer[-2] ^ 1]) + answer[-1:] if answer else b"\n"
+    return [*answers[:at], changed, *answers[at + 1 :]]
 
 
 def seen_when_falsified(word, sheets, answers):
@@ -184,21 +296,28 @@ def seen_when_falsified(word, sheets, answers):
 
 def malformed_streams():
     """Streams that are none, and the sheet at which each is given up."""
-    good = b"events\t0\t8\nend\t1\t0\ncheck\t0\t9\naccepted\n"
+    good = b"events\t0\t8\nend\t1\t0\nbundle\t0\t0\ncheck\t0\t9\naccepted\n"
     return [
-        (good + b"check\t0\t9", 3),
-        (good + b"0\t9\naccepted\n", 3),
-        (good + b"event\t0\t8\nend\t1\t0\n", 3),
-        (good + b"checks\t0\t9\naccepted\n", 3),
-        (good + b"check 0 9\naccepted\n", 3),
-        (good + b"check\t0\naccepted\n", 3),
-        (good + b"check\t0\t9\t0\naccepted\n", 3),
-        (good + b"check\t0\t09\naccepted\n", 3),
+        (good + b"check\t0\t9", 4),
+        (good + b"0\t9\naccepted\n", 4),
+        (good + b"event\t0\t8\nend\t1\t0\n", 4),
+        (good + b"checks\t0\t9\naccepted\n", 4),
+        (good + b"bundles\t0\t0\n", 4),
+        (good + b"Bundle\t0\t0\n", 4),
+        (good + b"clause\t0\t8\nend\t1\t0\n", 4),
+        (good + b"bundle\t0\n", 4),
+        (good + b"bundle\t0\t\n", 4),
+        (good + b"check 0 9\naccepted\n", 4),
+        (good + b"check\t0\naccepted\n", 4),
+        (good + b"check\t0\t9\t0\naccepted\n", 4),
+        (good + b"check\t0\t09\naccepted\n", 4),
         (b"events\t-1\t8\nend\t1\t0\n", 1),
-        (good + b"check\t9\t9\naccepted\n", 3),
-        (good + good + b"check\t0\t10\naccepted\n", 5),
+        (good + b"check\t9\t9\naccepted\n", 4),
+        (good + b"bundle\t7\t8\nclause\n", 4),
+        (good + good + b"check\t0\t10\naccepted\n", 7),
         (b"check\t131073\t9\n" + bytes(131_073) + b"accepted\n", 1),
         (b"events\t0\t65537\n" + bytes(65_537), 1),
+        (b"bundle\t131073\t8\n" + bytes(131_073) + b"no\t0\t7\n", 1),
         (b"check\t" + b"1" * 30 + b"\n", 1),
     ]
 
@@ -256,11 +375,16 @@ class Counts:
 
 
 def compare(kind, title, sheets, counts, progress=sys.stdout):
-    """Replays sheets with the judge's answers, and again with one of them falsified; prints those that differ."""
+    """Replays sheets with the judge's answers, and counts what is among these."""
     answers = kind.judged(sheets)
     for sheet, answer in zip(sheets, answers, strict=True):
-        counts.answers[told(answer)] += 1
-        counts.words.update(line.split(b"\t", 1)[0] for line in lines_read(sheet, answer))
+        counts.answers[kind.told(answer)] += 1
+        counts.words.update(line.split(b"\t", 1)[0] for line in kind.lines_read(sheet, answer))
+    compare_with(answers, kind, title, sheets, counts, progress)
+
+
+def compare_with(answers, kind, title, sheets, counts, progress=sys.stdout):
+    """Replays sheets with answers, and again with one of them falsified; prints those that differ."""
     found = replayed(kind.word, sheets, answers)
     seen = seen_when_falsified(kind.word, sheets, answers)
     counts.differ += len(found)
@@ -282,16 +406,25 @@ def show_counts(kind, counts):
     return len(missing)
 
 
-def run(kind, first, runs):
-    """Compares `first`, sheets with a title each, and COUNT generated sheets for each SEED, as the command's words say;
-    then `runs` of the program alone."""
+def asked(count=20_000):
+    """How many sheets a seed gives, and the seeds, as the command's words say."""
     numbers = [int(word) for word in sys.argv[1:]]
-    count, seeds = (numbers or [20_000])[0], numbers[1:] or range(1, 7)
+    return (numbers or [count])[0], numbers[1:] or range(1, 7)
+
+
+def conclude(kind, counts, runs):
+    """Tells what came up, makes `runs` of the program alone and those of malformed streams; the exit status of it all."""
+    counts.failed += show_counts(kind, counts) + run_alone(kind.program, runs) + run_malformed()
+    print(f"in all: {counts.answers.total()} compared, {counts.differ} differ; {counts.failed} other failures")
+    return counts.status()
+
+
+def run(kind, first, runs):
+    """Compares `first`, sheets with a title each, and generated sheets as is asked; then `runs` of the program alone."""
+    count, seeds = asked()
     counts = Counts()
     for title, sheets in first:
         compare(kind, title, sheets, counts)
     for seed in seeds:
-        compare(kind, f"seed {seed}", generated(kind.generator, seed, count), counts)
-    counts.failed += show_counts(kind, counts) + run_alone(kind.program, runs) + run_malformed()
-    print(f"in all: {counts.answers.total()} compared, {counts.differ} differ; {counts.failed} other failures")
-    return counts.status()
+        compare(kind, f"seed {seed}", kind.generated(seed, count), counts)
+    return conclude(kind, counts, runs)

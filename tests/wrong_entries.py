@@ -8,7 +8,7 @@ programs it is, where it is one; then either `must-fail:` and the edit of the me
 lines as they stand in the code.
 
 On what the wrong answer shows is said by one of these: `sheet:`, one of document 01, as `6` or `10.3` for the third of its
-rows in the table of known_sheets; `event:` or `check:`, a sheet and behind `=>` its answer, with a space between fields,
+rows in the table of known_sheets; `event:`, `bundle:` or `check:`, a sheet and behind `=>` its answer, with a space between fields,
 ` / ` between lines and `*N` behind a line that stands N times; `state:`, the lines of an event sheet and behind `=>` a part
 of the state after them and its number; `main:`, the body of a program that shows a number, and `prints:`, the number.
 
@@ -202,7 +202,7 @@ def run_of(words):
         sheet, told = words["state"].split("=>")
         part, number = told.split()
         return Run(f"`{' '.join(sheet.split())}`, `{part}`", "main", state_after(lines_of(sheet), part), number + "\n")
-    for kind in ("event", "check"):
+    for kind in ("event", "bundle", "check"):
         if kind in words:
             sheet, due = words[kind].split("=>")
             return Run(f"`{' '.join(sheet.split())}`", kind, lines_of(sheet), lines_of(due))
@@ -218,7 +218,7 @@ def answer_of(crate, entry):
             answer.pairs.append((olds.pop(), text))
         elif word in ("says", "program", *WORDS):
             setattr(answer, WORDS.get(word, word), text)
-        elif word not in ("sheet", "event", "check", "state", "main", "prints"):
+        elif word not in ("sheet", "event", "bundle", "check", "state", "main", "prints"):
             raise Failure(f"{crate}: `{word}` is no word of an entry")
     answer.place = answer.place or answer.function
     answer.run = run_of(dict(words))

@@ -11,7 +11,7 @@ pub struct Words {
 impl Words {
     /// Counts the first words of a text's lines.
     pub fn count(&mut self, text: &str) {
-        for line in text.lines() {
+        for line in text.split_terminator('\n') {
             let word = line.split('\t').next().unwrap_or_default();
             match self.counts.get_mut(word) {
                 Some(count) => *count += 1,

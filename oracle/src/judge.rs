@@ -52,7 +52,7 @@ impl Accepted {
 }
 
 impl Refused {
-    fn whole(refusal: Refusal) -> Self {
+    pub(crate) fn whole(refusal: Refusal) -> Self {
         Refused { line: 0, refusal }
     }
 

@@ -1,4 +1,4 @@
-//! The original Rust as judge of event sheets.
+//! The original Rust as judge of event sheets, and of bundles of clauses.
 //!
 //! Three files of the original are compiled unchanged and decide everything they speak of.
 //! The rest of this crate reads sheets, tests sizes and prints.
@@ -12,6 +12,7 @@ mod sizes;
 mod state;
 mod stop;
 
+pub mod bundle;
 pub mod judge;
 pub mod limits;
 pub mod plain;

@@ -1,6 +1,6 @@
 //! The sizes of document 01, by name.
 
-/// A sheet's bytes, and the bytes lent for its answer unless told otherwise.
+/// The bytes of a sheet or a bundle, and those lent for its answer unless told otherwise.
 pub const SHEET_BYTES: usize = 65_536;
 pub const VARIABLES: usize = 64;
 /// Entries of one variable's use list, repeats counted.

@@ -1,6 +1,6 @@
 //! Counts over many sheets: what was accepted, what was refused, which words occurred.
 
-use crate::judge::{Accepted, Refused};
+use crate::judge::Refused;
 use judging::refusal::Refusal;
 use judging::words::Words;
 use std::fmt::{self, Display, Formatter};
@@ -17,12 +17,12 @@ pub struct Tally {
 }
 
 impl Tally {
-    pub fn count(&mut self, sheet: &[u8], verdict: &Result<Accepted, Refused>) {
+    pub fn count(&mut self, sheet: &[u8], verdict: Result<String, Refused>) {
         match verdict {
-            Ok(accepted) => {
+            Ok(answer) => {
                 self.accepted += 1;
                 self.given.count(&String::from_utf8_lossy(sheet));
-                self.printed.count(accepted.answer());
+                self.printed.count(&answer);
             }
             Err(refused) => self.refused[refused.refusal.number()] += 1,
         }

@@ -37,7 +37,8 @@ written-length (suc digits) n =
       | false ↦ omega (arith, length-append (written digits (n / 10)) (digit (n % 10) ∷ []), written-length digits (n / 10))
     ]
 
-decimal-length : (n : ℕ) → length (decimal n) ≤ 10
+-- a number has at most ten digits
+pub decimal-length : (n : ℕ) → length (decimal n) ≤ 10
 unfolding decimal
 decimal-length n = written-length 10 n
 

@@ -1,23 +1,24 @@
 -- Laws of the answer: there is one, its lines come in order, the first bad one decides, and it stays within the room.
-use Prim.Native.Nat.{ℕ, suc, _+_, _-_, _≤_, _<_}
+use Prim.Native.Nat.{ℕ, suc, _+_, _-_, _*_, _≤_, _<_}
 use mathlib.Core.Path.{_≡_, refl, ap, sym, _∙_}
 use mathlib.Core.Bool.{Bool, true, false, not, _&&_}
 use mathlib.Core.List.{List, [], _∷_, _++_, append-assoc}
 use native.Mathlib.Nat.{add-zero}
 use native.Mathlib.Omega.{arith}
 use lib.Dec.{ltb}
-use lib.ListN.{length}
+use lib.ListN.{length, drop, length-append}
 use borrow.Author.Tests.{ltb-false, not-true}
 use Rattle.notation.specs.Choice.{if_then_else_}
-use Rattle.notation.specs.ChoiceLaws.{both-true}
+use Rattle.notation.specs.ChoiceLaws.{both-true, either}
 use Rattle.refusals.specs.Refusals.{refusedForm, refusedFull, refusedRoom}
 use Rattle.sizes.specs.Sizes.{sheetBytes}
-use Rattle.split.specs.Split.{lineFeed, split}
-use Rattle.split.specs.SplitLaws.{split-le}
+use Rattle.split.specs.Split.{lineFeed, before, split}
+use Rattle.split.specs.SplitLaws.{split-some, split-le}
 use Rattle.debray_allocator.specs.declared.State.{State}
 use Rattle.debray_allocator.specs.declared.Answer.{Answer}
 use Rattle.debray_allocator.specs.State.{freshState}
 use Rattle.answers.specs.Answers.{answerText}
+use Rattle.answers.specs.AnswersLaws.{longest, answer-short, end-short}
 use Rattle.answered.specs.declared.Answered.{Answered}
 use Rattle.answered.specs.declared.Answered.the-variants.{Written, Refused}
 use Rattle.answered.specs.Answered.{filledBy}
@@ -26,6 +27,8 @@ use Rattle.event_sheets.specs.EventSheets.{
   Ran,
   refusedAt,
   behind,
+  maxRegAllocated,
+  numPermVars,
   ended,
   lastRan,
   lineAnswer,
@@ -140,11 +143,32 @@ ran-line (line ∷ (next ∷ parts)) s number =
       | false ↦ omega (arith, ran-line (next ∷ parts) (lineAnswer s line .state) (suc number))
     ]
 
-sheet-line : (sheet : List ℕ) → sheetRan sheet .line ≤ length sheet + 1
+pub sheet-line : (sheet : List ℕ) → sheetRan sheet .line ≤ length sheet + 1
 unfolding sheetRan
 sheet-line sheet = omega (arith, ran-line (split lineFeed sheet) freshState 1, split-le lineFeed sheet)
 
-answeredBy-within : (r : Ran) (room lines : ℕ) → r .line ≤ lines → Within room (r .text) lines (answeredBy r room)
+-- what a sheet prints is no longer than the longest that its lines and its end can
+ran-short :
+    (parts : List (List ℕ)) (part : List ℕ) (s : State) (number : ℕ)
+    → length (ran s number (part ∷ parts) .text) ≤ longest * suc (length parts)
+unfolding ran lastRan lineRan
+ran-short [] left s number =
+    either (λ (r : Ran). length (r .text) ≤ longest * 1) (ltb 0 (length left)) (omega arith) (omega (arith, end-short (maxRegAllocated (s .counters)) (numPermVars (s .counters))))
+ran-short (next ∷ parts) line s number =
+    let a = lineAnswer s line in
+    let later = ran (a .state) (suc number) (next ∷ parts) in
+    either (λ (r : Ran). length (r .text) ≤ longest * suc (suc (length parts))) (ltb 0 (a .refusal)) (omega arith)
+    (omega (arith, length-append (answerText (a .code) (a .at)) (later .text), answer-short (a .code) (a .at), ran-short parts next (a .state) (suc number)))
+
+pub sheet-short : (sheet : List ℕ) → length (sheetRan sheet .text) ≤ longest * (length sheet + 1)
+unfolding sheetRan
+sheet-short sheet =
+    let e = split-some lineFeed sheet in
+    let parts = drop 1 (split lineFeed sheet) in
+    let short = ran-short parts (before lineFeed sheet) freshState 1 in
+    omega (arith, ap (λ p. length (ran freshState 1 p .text)) e, short, ap length e, split-le lineFeed sheet)
+
+pub answeredBy-within : (r : Ran) (room lines : ℕ) → r .line ≤ lines → Within room (r .text) lines (answeredBy r room)
 unfolding answeredBy
 answeredBy-within r room lines h =
     elim (ltb 0 (r .refusal)) as

@@ -2,8 +2,11 @@
 use Prim.Native.Nat.{ℕ, _+_, _*_, _≤_}
 use mathlib.Core.Path.{_≡_}
 use mathlib.Core.List.{List}
+use lib.Dec.{ltb}
 use lib.ListN.{length}
-use Rattle.refusals.specs.Refusals.{refusedForm}
+use Rattle.notation.specs.Choice.{if_then_else_}
+use Rattle.refusals.specs.Refusals.{refusedForm, refusedFull}
+use Rattle.sizes.specs.Sizes.{sheetBytes}
 use Rattle.split.specs.Split.{lineFeed, before, split}
 use Rattle.printing.specs.Printing.{printed}
 use Rattle.event_lines.specs.declared.Line.{Line}
@@ -14,7 +17,7 @@ use Rattle.debray_allocator.specs.declared.Answer.{Answer}
 use Rattle.debray_allocator.specs.DebrayAllocator.{byRefusal, withCounters, acted}
 use Rattle.answers.specs.AnswersLaws.{longest}
 use Rattle.event_sheets.specs.declared.Run.{Run}
-use Rattle.event_sheets.specs.EventSheets.{Ran, ran, sheetRan}
+use Rattle.event_sheets.specs.EventSheets.{Ran, refusedAt, ran, sheetRan}
 
 -- how far a line comes: the tables too, also where it is refused
 abbrev pub saidActed : State → Line → List ℕ → Answer
@@ -23,6 +26,10 @@ saidActed s (Says event count) list = acted s event list
 
 unfoldable pub lineActed : State → List ℕ → Answer
 lineActed s line = saidActed s (lineSays line) (lineList line)
+
+-- a sheet that is too long has no run
+unfoldable pub wholeRan : List ℕ → Ran
+wholeRan sheet = if ltb sheetBytes (length sheet) then refusedAt 0 refusedFull else sheetRan sheet
 
 -- a run as it is told: the length for the text
 abbrev pub told : Ran → Run
@@ -33,9 +40,9 @@ abbrev pub toldBehind : ℕ → Ran → Run
 toldBehind count r = record { line = r .line; refusal = r .refusal; length = count + length (r .text) }
 
 -- between two lines: what is left of the sheet, run from here on, makes the run of the whole sheet
-pub record Going (sheet empty : List ℕ) (s : State) (rest : List ℕ) (end number count at : ℕ) (out : List ℕ) : Type 0 where
+pub record Going (sheet empty : List ℕ) (from : ℕ) (s : State) (rest : List ℕ) (end number count at : ℕ) (out : List ℕ) : Type 0 where
   pub tells : toldBehind count (ran s number (split lineFeed rest)) ≡ told (sheetRan sheet)
-  pub prints : printed out at (ran s number (split lineFeed rest) .text) ≡ printed empty 0 (sheetRan sheet .text)
+  pub prints : printed out at (ran s number (split lineFeed rest) .text) ≡ printed empty from (sheetRan sheet .text)
   pub room : length out ≡ length empty
   pub ends : end ≡ length (before lineFeed rest)
   pub lines : number + length rest ≤ length sheet + 1

@@ -8,7 +8,8 @@ use native.Mathlib.Omega.{arith}
 use lib.ListN.{length, take, drop, length-append, take-append-drop}
 use lib.Seq.{take-all}
 use borrow.Author.Tests.{lt-ltb, le-ltb}
-use Rattle.refusals.specs.Refusals.{accepted, refusedForm}
+use Rattle.refusals.specs.Refusals.{accepted, refusedForm, refusedFull}
+use Rattle.sizes.specs.Sizes.{sheetBytes}
 use Rattle.split.specs.Split.{lineFeed, before, after, split}
 use Rattle.split.specs.SplitLaws.{split-more, split-some, split-last, take-before, drop-before, after-length}
 use Rattle.printing.specs.Printing.{printed, placeAfter, Put}
@@ -31,7 +32,7 @@ use Rattle.answers.specs.Answers.{answerText, endText}
 use Rattle.answers.specs.AnswersLaws.{answer-short}
 use Rattle.event_sheets.specs.declared.Run.{Run}
 use Rattle.event_sheets.specs.EventSheets.{Ran, refusedAt, behind, maxRegAllocated, numPermVars, ended, saidAnswer, lineAnswer, lastRan, lineRan, ran, sheetRan}
-use Rattle.event_sheets.specs.Running.{saidActed, lineActed, told, toldBehind, Going}
+use Rattle.event_sheets.specs.Running.{saidActed, lineActed, wholeRan, told, toldBehind, Going}
 
 -- ---- A line
 
@@ -202,16 +203,45 @@ module _ (c : Counters) (number count at : ℕ) (out left : List ℕ) where
         added .put .bytes ∙ ap (printed out at) text ∙ ap (λ r. printed out at (r .text)) (sym w),
       )
 
+-- ---- A sheet of any length
+
+module _ (sheet : List ℕ) where
+  pub whole-full : sheetBytes < length sheet → wholeRan sheet ≡ refusedAt 0 refusedFull
+  unfolding wholeRan
+  whole-full h = simp (lt-ltb _ _ h)
+
+  pub whole-within : length sheet ≤ sheetBytes → wholeRan sheet ≡ sheetRan sheet
+  unfolding wholeRan
+  whole-within h = simp (le-ltb _ _ h)
+
+  module _ (out : List ℕ) (at : ℕ) where
+    -- one that is too long leaves the lent bytes as they are
+    pub run-full :
+        sheetBytes < length sheet
+        → (record { line = 0; refusal = refusedFull; length = 0 } ≡ told (wholeRan sheet))
+        × (out ≡ printed out at (wholeRan sheet .text))
+    run-full h =
+        let w = sym (whole-full h) in
+        (ap told w, sym (printed-nothing out at) ∙ ap (λ r. printed out at (r .text)) w)
+
+    pub run-within :
+        {run : Run} {after : List ℕ} → length sheet ≤ sheetBytes → run ≡ told (sheetRan sheet)
+        → after ≡ printed out at (sheetRan sheet .text)
+        → (run ≡ told (wholeRan sheet)) × (after ≡ printed out at (wholeRan sheet .text))
+    run-within h tells prints =
+        let w = sym (whole-within h) in
+        (tells ∙ ap told w, prints ∙ ap (λ r. printed out at (r .text)) w)
+
 -- ---- Between two lines
 
 pub going-first :
-    (sheet out : List ℕ) {s : State} {end : ℕ} → s ≡ freshState → end ≡ length (before lineFeed sheet)
-    → Going sheet out s sheet end 1 0 0 out
+    (sheet out : List ℕ) (from : ℕ) {s : State} {end : ℕ} → s ≡ freshState → end ≡ length (before lineFeed sheet)
+    → Going sheet out from s sheet end 1 0 from out
 unfolding sheetRan
-going-first sheet out fresh e =
+going-first sheet out from fresh e =
     record {
       tells = rw zero-add (ap (λ s. told (ran s 1 (split lineFeed sheet))) fresh);
-      prints = ap (λ s. printed out 0 (ran s 1 (split lineFeed sheet) .text)) fresh;
+      prints = ap (λ s. printed out from (ran s 1 (split lineFeed sheet) .text)) fresh;
       room = refl;
       ends = e;
       lines = omega arith;
@@ -219,13 +249,13 @@ going-first sheet out fresh e =
     }
 
 module _
-    {sheet empty : List ℕ} {s : State} {rest : List ℕ} {end number count at : ℕ} {out : List ℕ}
-    (g : Going sheet empty s rest end number count at out) where
+    {sheet empty : List ℕ} {from : ℕ} {s : State} {rest : List ℕ} {end number count at : ℕ} {out : List ℕ}
+    (g : Going sheet empty from s rest end number count at out) where
   pub going-last :
       {r : Run} {after : List ℕ} → length rest ≤ end
       → r ≡ toldBehind count (lastRan (s .counters) number rest)
       → after ≡ printed out at (lastRan (s .counters) number rest .text)
-      → (r ≡ told (sheetRan sheet)) × (after ≡ printed empty 0 (sheetRan sheet .text))
+      → (r ≡ told (sheetRan sheet)) × (after ≡ printed empty from (sheetRan sheet .text))
   going-last h tells prints =
       let w = ran-last s number rest (omega (arith, g .ends)) in (
         tells ∙ ap (toldBehind count) (sym w) ∙ g .tells,
@@ -244,7 +274,7 @@ module _
     pub going-refused :
         0 < b .refusal
         → (record { line = number; refusal = b .refusal; length = count } ≡ told (sheetRan sheet))
-        × (out ≡ printed empty 0 (sheetRan sheet .text))
+        × (out ≡ printed empty from (sheetRan sheet .text))
     going-refused bad =
         let w = ran-bad s number rest b found made bad in (
           ap (λ (n : ℕ). record { line = number; refusal = b .refusal; length = n }) (sym (add-zero count))
@@ -259,7 +289,7 @@ module _
         → Added scratch out at (answerText (b .code) (b .at)) adding scratchAfter outAfter
         → next ≡ drop (end + 1) rest
         → last ≡ length (before lineFeed next)
-        → Going sheet empty (b .state) next last (number + 1) (count + adding .length) (adding .place) outAfter
+        → Going sheet empty from (b .state) next last (number + 1) (count + adding .length) (adding .place) outAfter
     going-on {next = next} {outAfter = outAfter} {adding = adding} good added dropped last =
         let n : next ≡ after lineFeed rest = dropped ∙ ap (λ (k : ℕ). drop (k + 1) rest) (g .ends) ∙ drop-before lineFeed rest in
         let w = ran-good s number rest b found made good in

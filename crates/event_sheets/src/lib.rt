@@ -16,7 +16,7 @@ ghost use Rattle.event_sheets.specs.EventSheets.{
   answered,
   filled,
 };
-ghost use Rattle.event_sheets.specs.Running.{lineActed, told, toldBehind};
+ghost use Rattle.event_sheets.specs.Running.{lineActed, wholeRan, told, toldBehind};
 use allocation::TempFreeList;
 use allocator_state::Counters;
 use answered::Answered;
@@ -36,6 +36,9 @@ use temp_var_data::UseCounts;
 use temp_var_data::UseSets;
 use variable_records::Records;
 
+// A sheet of at most so many bytes is small, and the list of its lines' entries is as long.
+const SMALL_SHEET: usize = 512;
+
 // A sheet of at most so many bytes is short, and so many bytes of answer are kept aside for it.
 const SHORT_SHEET: usize = 2_048;
 
@@ -43,10 +46,10 @@ const SHORT_TEXT: usize = 8_192;
 
 // A run over the lines of a sheet: where it was refused and why, and the length of its text, which is told also where the
 // room has ended.
-struct Run {
-    line: usize,
-    refusal: u32,
-    length: usize,
+pub struct Run {
+    pub line: usize,
+    pub refusal: u32,
+    pub length: usize,
 }
 
 // A line that has no form changes nothing.
@@ -162,12 +165,12 @@ fn finish(
     }
 }
 
-// Runs over the lines of a sheet, the first bad one deciding. Their text is put as far as there is room.
-fn run_lines(sheet: &[u8], list: &mut [u32], out: &mut [u8]) -> Run
+// Runs over the lines of a sheet, the first bad one deciding. Their text is put at a place, as far as there is room.
+fn run_lines(sheet: &[u8], list: &mut [u32], out: &mut [u8], from: usize) -> Run
     requires { ⌜ length (now sheet) ≤ sheetBytes ⌝ }
     requires { ⌜ length (now sheet) ≤ length (now list) ⌝ }
     ensures { λ r. ⌜ r ≡ told (sheetRan (now (sheet .entry))) ⌝ }
-    ensures { λ _. ⌜ now (out .exit) ≡ printed (now (out .entry)) 0 (sheetRan (now (sheet .entry)) .text) ⌝ }
+    ensures { λ _. ⌜ now (out .exit) ≡ printed (now (out .entry)) from (sheetRan (now (sheet .entry)) .text) ⌝ }
 {
     let fresh = debray_allocator::fresh();
     let mut counters = fresh.counters;
@@ -184,7 +187,7 @@ fn run_lines(sheet: &[u8], list: &mut [u32], out: &mut [u8]) -> Run
     let mut scratch = [0; LONGEST];
     let mut number = 1;
     let mut length = 0;
-    let mut at = 0;
+    let mut at = from;
     let mut rest = sheet;
     let mut end = split::end_of(rest, LINE_FEED);
     while end < rest.len() {
@@ -224,15 +227,38 @@ fn run_lines(sheet: &[u8], list: &mut [u32], out: &mut [u8]) -> Run
     finish(counters, out, at, length, number, rest)
 }
 
-// The answer to a sheet that is not too long. The first run is made aside, so that a refusal leaves the lent bytes as they
-// were; an answer too long to be kept there is made again in them.
-fn answer_aside(sheet: &[u8], list: &mut [u32], text: &mut [u8], out: &mut [u8]) -> Answered
-    requires { ⌜ length (now sheet) ≤ sheetBytes ⌝ }
-    requires { ⌜ length (now sheet) ≤ length (now list) ⌝ }
+// Runs over a sheet, whose text is put at a place. The list of a small or a short one is no longer than such a sheet, since
+// clearing it takes longer than running.
+pub fn run_sheet(sheet: &[u8], out: &mut [u8], at: usize) -> Run
+    ensures { λ r. ⌜ r ≡ told (wholeRan (now (sheet .entry))) ⌝ }
+    ensures { λ _. ⌜ now (out .exit) ≡ printed (now (out .entry)) at (wholeRan (now (sheet .entry)) .text) ⌝ }
+{
+    if SHEET_BYTES < sheet.len() {
+        return Run {
+            line: 0,
+            refusal: refusals::FULL,
+            length: 0,
+        };
+    }
+    if sheet.len() <= SMALL_SHEET {
+        let mut list = [0; SMALL_SHEET];
+        return run_lines(sheet, &mut list[..], out, at);
+    }
+    if sheet.len() <= SHORT_SHEET {
+        let mut list = [0; SHORT_SHEET];
+        return run_lines(sheet, &mut list[..], out, at);
+    }
+    let mut list = [0; SHEET_BYTES];
+    run_lines(sheet, &mut list[..], out, at)
+}
+
+// The answer to a sheet. The first run is made aside, so that a refusal leaves the lent bytes as they were; an answer too long
+// to be kept there is made again in them.
+fn answer_aside(sheet: &[u8], text: &mut [u8], out: &mut [u8]) -> Answered
     ensures { λ r. ⌜ r ≡ answered (now (sheet .entry)) (length (now (out .entry))) ⌝ }
     ensures { λ _. ⌜ now (out .exit) ≡ filled (now (sheet .entry)) (now (out .entry)) ⌝ }
 {
-    let run = run_lines(sheet, list, text);
+    let run = run_sheet(sheet, text, 0);
     if 0 < run.refusal {
         return Answered::Refused(run.line, run.refusal);
     }
@@ -243,25 +269,20 @@ fn answer_aside(sheet: &[u8], list: &mut [u32], text: &mut [u8], out: &mut [u8])
         printing::put_word(out, 0, split::part_before(text, run.length));
         return Answered::Written(run.length);
     }
-    run_lines(sheet, list, out);
+    run_sheet(sheet, out, 0);
     Answered::Written(run.length)
 }
 
-// The answer to an event sheet: its length is tested first, then its lines, and the room last. A short sheet is given a short
-// list and a short text, since clearing them takes longer than answering it.
+// The answer to an event sheet: its length decides first, then its lines, and the room last. A short sheet is given a short
+// text, since clearing it takes longer than answering.
 pub fn answer(sheet: &[u8], out: &mut [u8]) -> Answered
     ensures { λ r. ⌜ r ≡ answered (now (sheet .entry)) (length (now (out .entry))) ⌝ }
     ensures { λ _. ⌜ now (out .exit) ≡ filled (now (sheet .entry)) (now (out .entry)) ⌝ }
 {
-    if SHEET_BYTES < sheet.len() {
-        return Answered::Refused(0, refusals::FULL);
-    }
     if sheet.len() <= SHORT_SHEET {
-        let mut list = [0; SHORT_SHEET];
         let mut text = [0; SHORT_TEXT];
-        return answer_aside(sheet, &mut list[..], &mut text[..], out);
+        return answer_aside(sheet, &mut text[..], out);
     }
-    let mut list = [0; SHEET_BYTES];
     let mut text = [0; SHEET_BYTES];
-    answer_aside(sheet, &mut list[..], &mut text[..], out)
+    answer_aside(sheet, &mut text[..], out)
 }

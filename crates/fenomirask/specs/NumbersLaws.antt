@@ -13,6 +13,8 @@ use Rattle.event_calls.specs.EventCalls.{called, lastAnswered}
 use Rattle.event_calls.specs.EventCallsLaws.{call-within, last-within}
 use Rattle.event_sheets.specs.EventSheets.{answered as answeredEvents}
 use Rattle.event_sheets.specs.EventSheetsLaws.{written-within as events-written, line-within as events-line}
+use Rattle.bundles.specs.Bundles.{answered as answeredBundle}
+use Rattle.bundles.specs.BundlesLaws.{written-within as bundle-written, line-whole as bundle-line}
 use Rattle.check_sheets.specs.CheckSheets.{answered as answeredCheck}
 use Rattle.check_sheets.specs.CheckSheetsLaws.{written-within as check-written, line-within as check-line}
 use Rattle.fenomirask.specs.Numbers.{Fits}
@@ -33,6 +35,13 @@ module _ (sheet : List ℕ) (room : ℕ) (h : room < 2 ^ 63) {a : Answered} wher
       (within-fits room (answeredEvents sheet room) h
       (λ count w. events-written sheet room count w .0)
       (λ line refusal w. events-line sheet room line refusal w))
+
+  pub bundle-fits : a ≡ answeredBundle sheet room → Fits a
+  bundle-fits e =
+      subst Fits (sym e)
+      (within-fits room (answeredBundle sheet room) h
+      (λ count w. bundle-written sheet room count w .0)
+      (λ line refusal w. omega (arith, bundle-line sheet room line refusal w)))
 
   pub check-fits : (right : Bool) → a ≡ answeredCheck right sheet room → Fits a
   check-fits right e =

@@ -8,6 +8,7 @@ ghost use Rattle.answered.specs.Answered.{numberOf};
 ghost use Rattle.debray_allocator.specs.State.{freshState};
 ghost use Rattle.event_calls.specs.EventCalls.{called, callFilled, lastAnswered, lastFilled};
 ghost use Rattle.event_sheets.specs.EventSheets.{answered as answeredEvents, filled as filledEvents};
+ghost use Rattle.bundles.specs.Bundles.{answered as answeredBundle, filled as filledBundle};
 ghost use Rattle.check_sheets.specs.CheckSheets.{answered as answeredCheck, filled as filledCheck, ByVerdict};
 ghost use Rattle.fenomirask.specs.Numbers.{Fits};
 use answered::Answered;
@@ -54,6 +55,16 @@ pub extern "C" fn fenomirask_events(sheet: &[u8], out: &mut [u8]) -> i64
     ensures { λ _. ⌜ now (out .exit) ≡ filledEvents (now (sheet .entry)) (now (out .entry)) ⌝ }
 {
     let answered = event_sheets::answer(sheet, out);
+    number_of(answered)
+}
+
+// The answer to a bundle.
+#[no_mangle]
+pub extern "C" fn fenomirask_bundle(sheet: &[u8], out: &mut [u8]) -> i64
+    ensures { λ r. ⌜ r ≡ numberOf (answeredBundle (now (sheet .entry)) (length (now (out .entry)))) ⌝ }
+    ensures { λ _. ⌜ now (out .exit) ≡ filledBundle (now (sheet .entry)) (now (out .entry)) ⌝ }
+{
+    let answered = bundles::answer(sheet, out);
     number_of(answered)
 }
 

@@ -1,9 +1,9 @@
 // Replays sheets whose answers are known, and says which are answered otherwise.
 //
-// Standard input holds for each sheet a line of three fields: its kind, `events` or `check`, the bytes of the sheet and
-// those of its answer; behind it the sheet; behind that the answer, as the program for this kind prints it. Printed are
-// the numbers of the sheets that differ, from 1, and at the end how many sheets there were and how many differ. An input
-// that is not of this form is given up at the first sheet that shows it.
+// Standard input holds for each sheet a line of three fields: its kind, `events`, `check` or `bundle`, the bytes of the
+// sheet and those of its answer; behind it the sheet; behind that the answer, as the program for this kind prints it.
+// Printed are the numbers of the sheets that differ, from 1, and at the end how many sheets there were and how many differ.
+// An input that is not of this form is given up at the first sheet that shows it.
 use inputs::AT_THE_END;
 use libc::STDERR_FILENO;
 use libc::STDIN_FILENO;
@@ -25,6 +25,7 @@ const UNTOUCHED: u8 = 255;
 enum Kind {
     Events,
     Check,
+    Bundle,
 }
 
 // The next byte of the input.
@@ -113,6 +114,9 @@ fn lead_of(line: &[u8]) -> Lead {
     if words::is(word, b"check") {
         return sizes_of(Kind::Check, sizes);
     }
+    if words::is(word, b"bundle") {
+        return sizes_of(Kind::Bundle, sizes);
+    }
     Lead::Malformed
 }
 
@@ -167,6 +171,7 @@ fn put_reply(kind: Kind, sheet: &[u8], out: &mut [u8]) -> usize {
     match kind {
         Kind::Events => replies::put_event_reply(sheet, out),
         Kind::Check => replies::put_check_reply(sheet, out),
+        Kind::Bundle => replies::put_bundle_reply(sheet, out),
     }
 }
 

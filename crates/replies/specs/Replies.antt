@@ -2,19 +2,15 @@
 use Prim.Native.Nat.{ℕ, _≤_}
 use mathlib.Core.Path.{_≡_}
 use mathlib.Core.Bool.{Bool}
-use mathlib.Core.List.{List, [], _∷_}
-use Rattle.notation.specs.Text.{bytes}
+use mathlib.Core.List.{List}
 use Rattle.sizes.specs.Sizes.{largestNumber}
-use Rattle.numbers.specs.Numbers.{decimal}
 use Rattle.printing.specs.Printing.{Put}
-use Rattle.instructions.specs.Instructions.{line}
 use Rattle.answered.specs.declared.Answered.{Answered}
 use Rattle.answered.specs.declared.Answered.the-variants.{Written, Refused}
+use Rattle.answered.specs.Answered.{refusalText}
 use Rattle.event_sheets.specs.EventSheets.{sheetRan, answered as eventsAnswered}
+use Rattle.bundles.specs.Bundles.{bundleRan, answered as bundleAnswered}
 use Rattle.check_sheets.specs.CheckSheets.{wordOf, answered as checkAnswered}
-
-unfoldable pub refusalText : ℕ → ℕ → List ℕ
-refusalText number refusal = line (bytes "no" ∷ decimal number ∷ decimal refusal ∷ [])
 
 abbrev pub replied : Answered → List ℕ → List ℕ
 replied (Written count) text = text
@@ -23,6 +19,9 @@ replied (Refused number refusal) text = refusalText number refusal
 -- the reply to a sheet with so much room for its answer
 unfoldable pub eventReply : List ℕ → ℕ → List ℕ
 eventReply sheet room = replied (eventsAnswered sheet room) (sheetRan sheet .text)
+
+unfoldable pub bundleReply : List ℕ → ℕ → List ℕ
+bundleReply bundle room = replied (bundleAnswered bundle room) (bundleRan bundle .text)
 
 unfoldable pub checkReply : Bool → List ℕ → ℕ → List ℕ
 checkReply right sheet room = replied (checkAnswered right sheet room) (wordOf right)

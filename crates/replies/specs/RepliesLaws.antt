@@ -1,4 +1,4 @@
--- Laws of replies: what stands in the lent bytes, for both kinds of sheet.
+-- Laws of replies: what stands in the lent bytes, for each kind of sheet.
 use Prim.Native.Nat.{ℕ, _+_, _≤_}
 use mathlib.Core.Path.{_≡_, refl, sym, subst}
 use mathlib.Core.Bool.{Bool}
@@ -12,13 +12,15 @@ use Rattle.sizes.specs.Sizes.{sheetBytes, largestNumber}
 use Rattle.printing.specs.Printing.{printed, placeAfter, Put}
 use Rattle.answered.specs.declared.Answered.{Answered}
 use Rattle.answered.specs.declared.Answered.the-variants.{Written, Refused}
-use Rattle.answered.specs.Answered.{filledBy}
+use Rattle.answered.specs.Answered.{filledBy, refusalText}
 use Rattle.answered.specs.AnsweredLaws.{Within}
 use Rattle.event_sheets.specs.EventSheets as events
 use Rattle.event_sheets.specs.EventSheetsLaws.{answered-within as events-within}
+use Rattle.bundles.specs.Bundles as bundles
+use Rattle.bundles.specs.BundlesLaws.{answered-within as bundle-within}
 use Rattle.check_sheets.specs.CheckSheets as check
 use Rattle.check_sheets.specs.CheckSheetsLaws.{answered-within as check-within}
-use Rattle.replies.specs.Replies.{refusalText, replied, eventReply, checkReply, Printable, Told}
+use Rattle.replies.specs.Replies.{replied, eventReply, bundleReply, checkReply, Printable, Told}
 
 -- ---- Each way to tell an answer
 
@@ -69,7 +71,7 @@ module _ (text out : List ℕ) (b : Answered) (w : Within (length out) text (she
       told-put text out (sheetBytes + 1) b w next after
       (subst (λ l. Told b l next after) fills (subst (λ b. Told b left next after) e told))
 
--- ---- The two kinds of sheet
+-- ---- Each kind of sheet
 
 module _ (sheet out : List ℕ) {a : Answered} where
   pub event-printable : a ≡ events.answered sheet (length out) → Printable a
@@ -82,6 +84,17 @@ module _ (sheet out : List ℕ) {a : Answered} where
   unfolding eventReply events.filled
   event-put {left} {next} {after} e fills told =
       answered-put (events.sheetRan sheet .text) out (events.answered sheet (length out)) (events-within sheet (length out)) e left next after fills told
+
+  pub bundle-printable : a ≡ bundles.answered sheet (length out) → Printable a
+  bundle-printable e = answered-printable (bundles.bundleRan sheet .text) out (bundles.answered sheet (length out)) (bundle-within sheet (length out)) e
+
+  pub bundle-put :
+      {left : List ℕ} {next : ℕ} {after : List ℕ} → a ≡ bundles.answered sheet (length out) → left ≡ bundles.filled sheet out
+      → Told a left next after
+      → Put out 0 (bundleReply sheet (length out)) next after
+  unfolding bundleReply bundles.filled
+  bundle-put {left} {next} {after} e fills told =
+      answered-put (bundles.bundleRan sheet .text) out (bundles.answered sheet (length out)) (bundle-within sheet (length out)) e left next after fills told
 
   pub check-printable : (right : Bool) → a ≡ check.answered right sheet (length out) → Printable a
   check-printable right e = answered-printable (check.wordOf right) out (check.answered right sheet (length out)) (check-within right sheet (length out)) e

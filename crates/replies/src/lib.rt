@@ -3,26 +3,13 @@ ghost use lib.ListN.{length};
 ghost use Rattle.printing.specs.Printing.{Put};
 ghost use Rattle.check_sheets.specs.CheckSheets.{ByVerdict};
 ghost use Rattle.replies.specs.Replies.{
-  refusalText,
   eventReply,
+  bundleReply,
   checkReply,
   Printable,
   Told,
 };
 use answered::Answered;
-use split::LINE_FEED;
-use split::TAB;
-
-// The line of a refusal: `no`, the line and the refusal's number.
-pub fn put_refusal(out: &mut [u8], at: usize, line: u32, refusal: u32) -> usize
-    ensures { λ r. ⌜ Put (now (out .entry)) at (refusalText line refusal) r (now (out .exit)) ⌝ }
-{
-    let named = printing::put_word(out, at, b"no\t");
-    let numbered = printing::put_number(out, named, line);
-    let parted = printing::put_byte(out, numbered, TAB);
-    let refused = printing::put_number(out, parted, refusal);
-    printing::put_byte(out, refused, LINE_FEED)
-}
 
 // An answer that was written stays as it is; of a refusal its line is put.
 fn put_told(answered: Answered, out: &mut [u8]) -> usize
@@ -31,7 +18,7 @@ fn put_told(answered: Answered, out: &mut [u8]) -> usize
 {
     match answered {
         Answered::Written(count) => count,
-        Answered::Refused(line, refusal) => put_refusal(out, 0, line as u32, refusal),
+        Answered::Refused(line, refusal) => answered::put_refusal(out, 0, line as u32, refusal),
     }
 }
 
@@ -40,6 +27,14 @@ pub fn put_event_reply(sheet: &[u8], out: &mut [u8]) -> usize
     ensures { λ r. ⌜ Put (now (out .entry)) 0 (eventReply (now (sheet .entry)) (length (now (out .entry)))) r (now (out .exit)) ⌝ }
 {
     let answered = event_sheets::answer(sheet, out);
+    put_told(answered, out)
+}
+
+// What is printed of a bundle. The lent bytes are the room of its answer.
+pub fn put_bundle_reply(bundle: &[u8], out: &mut [u8]) -> usize
+    ensures { λ r. ⌜ Put (now (out .entry)) 0 (bundleReply (now (bundle .entry)) (length (now (out .entry)))) r (now (out .exit)) ⌝ }
+{
+    let answered = bundles::answer(bundle, out);
     put_told(answered, out)
 }
 

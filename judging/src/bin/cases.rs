@@ -10,7 +10,7 @@ use std::fs;
 use std::io::{self, ErrorKind, Write};
 use std::process::{Command, ExitCode, Stdio};
 
-const USAGE: &str = "cases PROGRAM FILE... | cases --sheets FILE...";
+const USAGE: &str = "cases PROGRAM [--OPTION...] FILE... | cases --sheets FILE...";
 
 struct Case {
     /// Where the case stands, and its text.
@@ -30,20 +30,28 @@ enum Answer {
 
 struct Options {
     /// Without a program the sheets are only written.
-    program: Option<String>,
+    program: Option<Program>,
     files: Vec<String>,
 }
 
+/// A program, and what it is told besides what a case asks for.
+struct Program {
+    path: String,
+    options: Vec<String>,
+}
+
 fn read_options(words: &[&str]) -> Option<Options> {
-    let (first, files) = words.split_first()?;
+    let (first, further) = words.split_first()?;
+    let further = further.iter().map(|word| word.to_string());
+    let (options, files) = further.partition(|word| word.starts_with("--"));
     let program = match *first {
         "--sheets" => None,
-        program => Some(program.to_string()),
+        path => Some(Program {
+            path: path.to_string(),
+            options,
+        }),
     };
-    Some(Options {
-        program,
-        files: files.iter().map(|file| file.to_string()).collect(),
-    })
+    Some(Options { program, files })
 }
 
 fn read_file(file: &str) -> io::Result<Vec<Case>> {
@@ -93,8 +101,9 @@ fn read_case(file: &str, line: usize, text: &str) -> Option<Case> {
     })
 }
 
-fn run_program(program: &str, case: &Case) -> io::Result<String> {
-    let mut command = Command::new(program);
+fn run_program(program: &Program, case: &Case) -> io::Result<String> {
+    let mut command = Command::new(&program.path);
+    command.args(&program.options);
     if let Some(room) = &case.room {
         command.args(["--room", room]);
     }
@@ -135,7 +144,7 @@ fn is_wanted_state(case: &Case, printed: &str) -> bool {
 }
 
 /// Whether the program prints what the case wants; if not, shows what it prints.
-fn passes(program: &str, case: &Case) -> io::Result<bool> {
+fn passes(program: &Program, case: &Case) -> io::Result<bool> {
     let printed = run_program(program, case)?;
     let passes = is_wanted(case, &printed);
     if !passes {
@@ -144,7 +153,7 @@ fn passes(program: &str, case: &Case) -> io::Result<bool> {
     Ok(passes)
 }
 
-fn run_cases(program: &str, cases: &[Case]) -> io::Result<ExitCode> {
+fn run_cases(program: &Program, cases: &[Case]) -> io::Result<ExitCode> {
     let mut passed = 0;
     for case in cases {
         passed += usize::from(passes(program, case)?);

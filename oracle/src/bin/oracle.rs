@@ -1,18 +1,20 @@
-//! Answers event sheets from standard input as the original Rust decides them.
+//! Answers event sheets, or bundles of clauses, from standard input as the original Rust decides them.
 
 use judging::frames::{read_frame, write_frame};
 use judging::program;
-use oracle::judge::judge;
+use oracle::bundle::judge_bundle;
+use oracle::judge::{Refused, judge};
 use oracle::limits::SHEET_BYTES;
 use oracle::tally::Tally;
 use std::io::{self, BufRead, BufWriter, Write};
 use std::process::ExitCode;
 
-const USAGE: &str = "oracle [--room N] [--state] [--batch [--count]]";
+const USAGE: &str = "oracle [--room N] [--state | --bundle] [--batch [--count]]";
 
 struct Options {
     room: usize,
     state: bool,
+    bundle: bool,
     batch: bool,
     count: bool,
 }
@@ -21,6 +23,7 @@ fn read_options(words: &[&str]) -> Option<Options> {
     let mut options = Options {
         room: SHEET_BYTES,
         state: false,
+        bundle: false,
         batch: false,
         count: false,
     };
@@ -29,21 +32,37 @@ fn read_options(words: &[&str]) -> Option<Options> {
         match *word {
             "--room" => options.room = words.next()?.parse().ok()?,
             "--state" => options.state = true,
+            "--bundle" => options.bundle = true,
             "--batch" => options.batch = true,
             "--count" => options.count = true,
             _ => return None,
         }
     }
     let counts_a_batch = options.batch || !options.count;
-    counts_a_batch.then_some(options)
+    let has_one_state = !(options.bundle && options.state);
+    (counts_a_batch && has_one_state).then_some(options)
+}
+
+/// The answer to an event sheet or a bundle.
+fn answer(sheet: &[u8], options: &Options) -> Result<String, Refused> {
+    if options.bundle {
+        return judge_bundle(sheet, options.room);
+    }
+    judge(sheet, options.room).map(|accepted| accepted.answer().to_string())
+}
+
+/// The answer to an event sheet, and the final state behind it.
+fn answer_and_state(sheet: &[u8], options: &Options) -> Result<String, Refused> {
+    let accepted = judge(sheet, options.room)?;
+    Ok(accepted.answer().to_string() + &accepted.state())
 }
 
 fn response(sheet: &[u8], options: &Options) -> String {
-    match judge(sheet, options.room) {
-        Ok(accepted) if options.state => accepted.answer().to_string() + &accepted.state(),
-        Ok(accepted) => accepted.answer().to_string(),
-        Err(refused) => refused.answer(),
-    }
+    let answered = match options.state {
+        true => answer_and_state(sheet, options),
+        false => answer(sheet, options),
+    };
+    answered.unwrap_or_else(|refused| refused.answer())
 }
 
 fn answer_one(
@@ -74,7 +93,7 @@ fn count_batch(
 ) -> io::Result<()> {
     let mut tally = Tally::default();
     while let Some(sheet) = read_frame(input)? {
-        tally.count(&sheet, &judge(&sheet, options.room));
+        tally.count(&sheet, answer(&sheet, options));
     }
     write!(output, "{tally}")
 }

@@ -16,13 +16,13 @@ use Rattle.event_sheets.proofs.run_lines.Statement.{statement}
 use Rattle.event_sheets.proofs.run_lines.Tie as tie
 
 abbrev Inv-loop : tie.InvT-loop
-Inv-loop sheet list₀ out₀ counters₀ records₀ use-sets₀ use-counts₀ no-use₀ conflict₀ mappings₀ freed-registers₀ freed-slots₀ branch-rows₀ branch-sets₀ scratch₀ number₀ count₀ at₀ rest₀ end₀ list out counters records use-sets use-counts no-use conflict mappings freed-registers freed-slots branch-rows branch-sets scratch number count at rest end =
-    Going sheet out₀ (stateOf counters records use-sets use-counts no-use conflict mappings freed-registers freed-slots branch-rows branch-sets) rest end number count at out
+Inv-loop sheet list₀ out₀ from counters₀ records₀ use-sets₀ use-counts₀ no-use₀ conflict₀ mappings₀ freed-registers₀ freed-slots₀ branch-rows₀ branch-sets₀ scratch₀ number₀ count₀ at₀ rest₀ end₀ list out counters records use-sets use-counts no-use conflict mappings freed-registers freed-slots branch-rows branch-sets scratch number count at rest end =
+    Going sheet out₀ from (stateOf counters records use-sets use-counts no-use conflict mappings freed-registers freed-slots branch-rows branch-sets) rest end number count at out
     × (length rest ≤ length list₀)
     × (length list ≡ length list₀)
 
 abbrev μ-loop : tie.MeasureT-loop
-μ-loop sheet list₀ out₀ counters₀ records₀ use-sets₀ use-counts₀ no-use₀ conflict₀ mappings₀ freed-registers₀ freed-slots₀ branch-rows₀ branch-sets₀ scratch₀ number₀ count₀ at₀ rest₀ end₀ list out counters records use-sets use-counts no-use conflict mappings freed-registers freed-slots branch-rows branch-sets scratch number count at rest end =
+μ-loop sheet list₀ out₀ from counters₀ records₀ use-sets₀ use-counts₀ no-use₀ conflict₀ mappings₀ freed-registers₀ freed-slots₀ branch-rows₀ branch-sets₀ scratch₀ number₀ count₀ at₀ rest₀ end₀ list out counters records use-sets use-counts no-use conflict mappings freed-registers freed-slots branch-rows branch-sets scratch number count at rest end =
     length rest
 
 fresh-requires : tie.Need-fresh-requires Inv-loop μ-loop
@@ -32,7 +32,7 @@ end-of-requires : tie.Need-end-of-requires Inv-loop μ-loop
 end-of-requires c κs = search needs
 
 loop-holds : tie.Need-loop-holds Inv-loop μ-loop
-loop-holds c = (going-first _ _ (c .before .before .before .before .before .before .before .before .before .before .before .before .fresh .ensures) (c .end-of .ensures), c .before .before .before .before .before .before .before .before .before .before .before .before .before .before .before .before .pre .1, refl)
+loop-holds c = (going-first _ _ _ (c .before .before .before .before .before .before .before .before .before .before .before .before .fresh .ensures) (c .end-of .ensures), c .before .before .before .before .before .before .before .before .before .before .before .before .before .before .before .before .pre .1, refl)
 
 part-before-requires : tie.Need-part-before-requires Inv-loop μ-loop
 part-before-requires c κs = search needs

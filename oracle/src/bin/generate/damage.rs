@@ -21,7 +21,7 @@ pub fn damaged(random: &mut Random) -> Vec<u8> {
     bytes
 }
 
-const DAMAGES: [(usize, Damage); 15] = [
+pub const DAMAGES: [(usize, Damage); 15] = [
     (2, Change(any, flip_bit)),
     (2, Change(any, draw_byte)),
     (1, Change(is_tab, |_, _| b' ')),

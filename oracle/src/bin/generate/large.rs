@@ -25,6 +25,11 @@ pub fn answer(random: &mut Random) -> Sheet {
         1 => random.between(SHEET_BYTES, SHEET_BYTES + 9_000),
         _ => random.between(SHEET_BYTES + 1, SHEET_BYTES + 99),
     };
+    answer_of(random, length)
+}
+
+/// A sheet whose answer has exactly so many bytes.
+pub fn answer_of(random: &mut Random, length: usize) -> Sheet {
     let mut sheet = Sheet::default();
     let mut rest = length - bind_two_variables(&mut sheet);
     while rest >= PADDING + LONGEST_PART {
@@ -66,6 +71,11 @@ const SILENT: [&str; 6] = [
 /// A sheet about as long as it may be.
 pub fn sheet(random: &mut Random) -> Sheet {
     let length = random.between(SHEET_BYTES - 3, SHEET_BYTES + 3);
+    sheet_of(random, length)
+}
+
+/// A sheet of exactly so many bytes.
+pub fn sheet_of(random: &mut Random, length: usize) -> Sheet {
     let mut sheet = Sheet::default();
     sheet.line("perm 3");
     sheet.line("temp l1 3 l1:1,l1:4");

@@ -1,5 +1,6 @@
-//! Writes event sheets, the same ones for the same seed, as frames on standard output.
+//! Writes event sheets, or bundles of clauses, the same ones for the same seed, as frames on standard output.
 
+mod bundles;
 mod clauses;
 mod damage;
 mod driven;
@@ -13,7 +14,7 @@ mod wild;
 use judging::generator::{self, Kinds, WriteSheet};
 use std::process::ExitCode;
 
-const USAGE: &str = "generate --seed S --count N [--clauses | --driven]";
+const USAGE: &str = "generate --seed S --count N [--clauses | --driven | --bundles]";
 
 /// The kinds of sheet, each as often as its weight says.
 const KINDS: [(usize, WriteSheet); 7] = [
@@ -26,12 +27,13 @@ const KINDS: [(usize, WriteSheet); 7] = [
     (6, |random| large::sheet(random).into_bytes()),
 ];
 
-/// Every kind, or clauses alone: those of the first kind, or clauses with tests.
+/// Every kind, or clauses alone: those of the first kind, or clauses with tests; or bundles.
 fn named_kinds(words: &[&str]) -> Option<Kinds> {
     match words {
         [] => Some(KINDS.to_vec()),
         ["--clauses"] => Some(KINDS[..1].to_vec()),
         ["--driven"] => Some(vec![(1, |random| driven::driven(random).into_bytes())]),
+        ["--bundles"] => Some(bundles::BUNDLES.to_vec()),
         _ => None,
     }
 }

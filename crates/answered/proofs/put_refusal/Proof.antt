@@ -1,11 +1,11 @@
--- `replies::put_refusal`: the texts stand behind each other. Assumes nothing.
+-- `answered::put_refusal`: the texts stand behind each other. Assumes nothing.
 use borrow.Author.Needs.{needs}
 use Rattle.printing.specs.PrintingLaws.{put-then}
 use Rattle.split.specs.Split.{joined}
 use Rattle.instructions.specs.Instructions.{line}
-use Rattle.replies.specs.Replies.{refusalText}
-use Rattle.replies.proofs.put_refusal.Tie as tie
-use Rattle.replies.proofs.put_refusal.Statement.{statement}
+use Rattle.answered.specs.Answered.{refusalText}
+use Rattle.answered.proofs.put_refusal.Tie as tie
+use Rattle.answered.proofs.put_refusal.Statement.{statement}
 
 slice-aggregate-put-word : tie.Need-slice-aggregate-put-word
 slice-aggregate-put-word c = search needs
