@@ -238,8 +238,11 @@ module _ {rest left : List ℕ} {bytes end : ℕ} (k : Seeking rest left bytes e
 
 -- ---- What a clause prints
 
--- the line of a refusal is short
-pub refusal-short : (number refusal : ℕ) → length (refusalText number refusal) ≤ 32
+-- the line of a refusal has at most so many bytes
+abbrev pub refusalBytes : ℕ
+refusalBytes = 32
+
+pub refusal-short : (number refusal : ℕ) → length (refusalText number refusal) ≤ refusalBytes
 unfolding refusalText instructions.line joined
 refusal-short number refusal =
     omega (
