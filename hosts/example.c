@@ -1,9 +1,10 @@
 /* An example of a host: answers a sheet from a file or from standard input.
  *
- *     example events|lines|check [FILE]
+ *     example events|lines|check|bundle [FILE]
  *
  * `lines` answers an event sheet as `events` does, but gives it line by line, as a host does that has no sheet.
- * Prints the answer, or the line and the refusal in words; exit 0 with an answer, 1 with a refusal, 2 with neither.
+ * Prints the answer, or the line and the refusal in words; exit 0 with an answer, 1 with a refusal, 2 with neither. The
+ * answer to a bundle is one even where a clause of it is refused.
  */
 #include <stdio.h>
 #include <string.h>
@@ -53,7 +54,12 @@ static int64_t lines(const uint8_t *sheet, size_t sheet_bytes, uint8_t *out, siz
 static const struct {
     const char *word;
     int64_t (*answer)(const uint8_t *sheet, size_t sheet_bytes, uint8_t *out, size_t out_bytes);
-} modes[] = {{"events", fenomirask_events}, {"lines", lines}, {"check", fenomirask_check}};
+} modes[] = {
+    {"events", fenomirask_events},
+    {"lines", lines},
+    {"check", fenomirask_check},
+    {"bundle", fenomirask_bundle},
+};
 enum { MODES = sizeof modes / sizeof modes[0] };
 
 int main(int count, char **words)
@@ -66,7 +72,7 @@ int main(int count, char **words)
     while (count >= 2 && mode < MODES && strcmp(words[1], modes[mode].word) != 0)
         mode++;
     if (count < 2 || count > 3 || mode == MODES) {
-        fprintf(stderr, "usage: example events|lines|check [FILE]\n");
+        fprintf(stderr, "usage: example events|lines|check|bundle [FILE]\n");
         return 2;
     }
     if (count == 3 && (file = fopen(words[2], "rb")) == NULL) {

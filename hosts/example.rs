@@ -1,9 +1,10 @@
 //! An example of a host: answers a sheet from a file or from standard input.
 //!
-//!     example events|lines|check [FILE]
+//!     example events|lines|check|bundle [FILE]
 //!
 //! `lines` answers an event sheet as `events` does, but gives it line by line, as a host does that has no sheet.
-//! Prints the answer, or the line and the refusal in words; exit 0 with an answer, 1 with a refusal, 2 with neither.
+//! Prints the answer, or the line and the refusal in words; exit 0 with an answer, 1 with a refusal, 2 with neither. The
+//! answer to a bundle is one even where a clause of it is refused.
 use std::fs::File;
 use std::io::{self, Read, Write};
 use std::os::fd::{AsFd, BorrowedFd};
@@ -57,8 +58,9 @@ fn run(words: &[String]) -> io::Result<i32> {
         Some("events") if words.len() <= 2 => fenomirask::events,
         Some("lines") if words.len() <= 2 => lines,
         Some("check") if words.len() <= 2 => fenomirask::check,
+        Some("bundle") if words.len() <= 2 => fenomirask::bundle,
         _ => {
-            eprintln!("usage: example events|lines|check [FILE]");
+            eprintln!("usage: example events|lines|check|bundle [FILE]");
             return Ok(2);
         }
     };

@@ -1,12 +1,12 @@
 //! A safe wrapper of the static library libfenomirask.a, x86-64.
 //!
 //! A slice is never null and a `&mut` slice overlaps nothing, so all that include/fenomirask.h asks of a host holds
-//! here by Rust's own rules. A call of `events` or of a method of `Clause` needs about 340 KB of stack, one of `check`
-//! about 70 KB.
+//! here by Rust's own rules. A call of `events` or of a method of `Clause` needs about 350 KB of stack, one of `check`
+//! about 70 KB, one of `bundle` about 360 KB.
 use std::fmt;
 use std::mem::{size_of, MaybeUninit};
 
-/// A sheet that is longer is refused, `Refusal::Full` on line 0, and so is a line that is given alone.
+/// A sheet or bundle that is longer is refused, `Refusal::Full` on line 0, and so is a line that is given alone.
 pub const SHEET_BYTES: usize = 65_536;
 
 /// No event prints more, nor does the end of a clause.
@@ -185,6 +185,12 @@ mod library {
             out: *mut u8,
             out_bytes: usize,
         ) -> i64;
+        pub fn fenomirask_bundle(
+            sheet: *const u8,
+            sheet_bytes: usize,
+            out: *mut u8,
+            out_bytes: usize,
+        ) -> i64;
         pub fn fenomirask_event(
             state: *mut State,
             line: *const u8,
@@ -227,6 +233,15 @@ pub fn check(sheet: &[u8], out: &mut [u8]) -> Result<usize, Refused> {
     // SAFETY: as in `events`.
     answered(unsafe {
         library::fenomirask_check(sheet.as_ptr(), sheet.len(), out.as_mut_ptr(), out.len())
+    })
+}
+
+/// The answer to a bundle, those to its clauses one behind another, stands at the start of `out`, as with `events`. A
+/// refused clause has its `no` line among them; what is refused here is the whole bundle, on line 0.
+pub fn bundle(sheet: &[u8], out: &mut [u8]) -> Result<usize, Refused> {
+    // SAFETY: as in `events`.
+    answered(unsafe {
+        library::fenomirask_bundle(sheet.as_ptr(), sheet.len(), out.as_mut_ptr(), out.len())
     })
 }
 

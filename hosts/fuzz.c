@@ -1,7 +1,8 @@
 /* A target for libFuzzer: two builds of the library answer each input, and are held to the header and to each other.
  *
  * fenomirask_* is the library as every host links it. watched_* is the same module, compiled once more with a counter on
- * each edge and a check of each access; tests/fuzz makes it, and says with FUNCTION what is called: EVENTS, CHECK or LINE.
+ * each edge and a check of each access; tests/fuzz makes it, and says with FUNCTION what is called: EVENTS, CHECK, BUNDLE or
+ * LINE.
  *
  * An input is two bytes of room, the lower first, and a sheet. Where that is given line by line, a line of eight bytes
  * that starts with byte 0 also spoils a number of the state: two bytes are its place, four the number.
@@ -16,18 +17,19 @@
     ((condition) ? (void)0 : (fprintf(stderr, "fuzz.c:%d: does not hold: %s\n", __LINE__, #condition), abort()))
 #define BUILD(watched, name) ((watched) ? watched_##name : fenomirask_##name)
 
-extern __typeof__(fenomirask_events) watched_events, watched_check;
+extern __typeof__(fenomirask_events) watched_events, watched_check, watched_bundle;
 extern __typeof__(fenomirask_fresh) watched_fresh;
 extern __typeof__(fenomirask_event) watched_event;
 extern __typeof__(fenomirask_end) watched_end;
 extern int LLVMFuzzerTestOneInput(const uint8_t *input, size_t bytes);
 
 enum { HEAD_BYTES = 2, SPOIL_BYTES = 8, NUMBERS = sizeof(FenomiraskState) / sizeof(uint32_t) };
+enum { OPENING = sizeof "clause\n" - 1 };
 enum { ONE_FILL = 0x35, OTHER_FILL = 0xca, INVALID = -FENOMIRASK_OUTSIDE_SIZE };
 
 /* A call, and what it was answered. */
 typedef struct Call {
-    enum { EVENTS, CHECK, LINE, END } function;
+    enum { EVENTS, CHECK, BUNDLE, LINE, END } function;
     const uint8_t *sheet;
     size_t bytes, lines;
     FenomiraskState state;
@@ -46,7 +48,7 @@ static int same_state(const FenomiraskState *one, const FenomiraskState *other)
 /* Where a call is repeated, the library's frames lie on these bytes: no answer may come from what lay there. */
 __attribute__((noinline, no_sanitize("address"))) static void fill_stack(uint8_t fill)
 {
-    uint8_t stack[FENOMIRASK_EVENTS_STACK];
+    uint8_t stack[FENOMIRASK_BUNDLE_STACK];
     memset(stack, fill, sizeof stack);
     __asm__ volatile("" : : "r"(stack) : "memory");
 }
@@ -58,10 +60,11 @@ static Call answered(Call call, int watched, size_t room, uint8_t fill)
     FenomiraskState *state = memcpy(malloc(sizeof *state), &call.state, sizeof *state);
     if (fill == OTHER_FILL)
         fill_stack(fill);
-    int64_t number = call.function == EVENTS  ? BUILD(watched, events)(sheet, call.bytes, out, room)
-                     : call.function == CHECK ? BUILD(watched, check)(sheet, call.bytes, out, room)
-                     : call.function == LINE  ? BUILD(watched, event)(state, sheet, call.bytes, out, room)
-                                              : BUILD(watched, end)(state, out, room);
+    int64_t number = call.function == EVENTS   ? BUILD(watched, events)(sheet, call.bytes, out, room)
+                     : call.function == CHECK  ? BUILD(watched, check)(sheet, call.bytes, out, room)
+                     : call.function == BUNDLE ? BUILD(watched, bundle)(sheet, call.bytes, out, room)
+                     : call.function == LINE   ? BUILD(watched, event)(state, sheet, call.bytes, out, room)
+                                               : BUILD(watched, end)(state, out, room);
     HOLD(number <= (int64_t)room && memcmp(sheet, call.sheet, call.bytes) == 0);
     if (FENOMIRASK_REFUSED(number)) {
         HOLD(FENOMIRASK_REFUSAL(number) >= 1 && FENOMIRASK_REFUSAL(number) <= 9);
@@ -77,14 +80,20 @@ static Call answered(Call call, int watched, size_t room, uint8_t fill)
     return call;
 }
 
+/* Counts the lines of a call. Returns the room that its answer needs at most. */
+static size_t most_room(Call *call)
+{
+    call->lines = call->bytes > 0 && call->sheet[call->bytes - 1] != '\n';
+    for (size_t at = 0; at < call->bytes; at++)
+        call->lines += call->sheet[at] == '\n';
+    return FENOMIRASK_EVENT_ROOM * (call->lines + (call->function != LINE));
+}
+
 /* The answer with as much room as can be needed; both builds repeat it, and with the input's room as far as that will do.
  * A line, of which there are many, is repeated once by each build. */
 static Call held(Call call, size_t room)
 {
-    call.lines = call.bytes > 0 && call.sheet[call.bytes - 1] != '\n';
-    for (size_t at = 0; at < call.bytes; at++)
-        call.lines += call.sheet[at] == '\n';
-    size_t most = FENOMIRASK_EVENT_ROOM * (call.lines + (call.function != LINE));
+    size_t most = most_room(&call);
     Call answer = answered(call, 1, most, ONE_FILL);
     HOLD(answer.number != -FENOMIRASK_NO_ROOM);
     for (int turn = 0; turn < 4; turn += call.function < LINE ? 1 : 3) {
@@ -127,11 +136,68 @@ static void hold_lines(const Call *whole, size_t room)
     HOLD(whole->number == (refused == 0 ? written : refused));
 }
 
+/* Whether the line that starts with these bytes has the word `clause`. */
+static int opens(const uint8_t *line, size_t left)
+{
+    return left >= OPENING && (memcmp(line, "clause\n", OPENING) == 0 || memcmp(line, "clause\t", OPENING) == 0);
+}
+
+/* Of whole lines the bytes of those before the first with the word `clause`. */
+static size_t until_clause(const uint8_t *lines, size_t bytes)
+{
+    size_t at = 0;
+    while (at < bytes && !opens(lines + at, bytes - at))
+        at = (size_t)((const uint8_t *)memchr(lines + at, '\n', bytes - at) + 1 - lines);
+    return at;
+}
+
+/* The refusal of a bundle that has all the room it needs, or 0. */
+static int wrong_with(const uint8_t *bundle, size_t bytes)
+{
+    if (bytes > FENOMIRASK_SHEET_BYTES)
+        return FENOMIRASK_FULL;
+    if (bytes > 0 && bundle[bytes - 1] != '\n')
+        return FENOMIRASK_UNKNOWN_FORM;
+    if (until_clause(bundle, bytes) > 0)
+        return FENOMIRASK_FORBIDDEN_ORDER;
+    for (size_t at = 0; at < bytes; at += until_clause(bundle + at, bytes - at)) {
+        at += OPENING;
+        if (bundle[at - 1] != '\n')
+            return FENOMIRASK_UNKNOWN_FORM;
+    }
+    return 0;
+}
+
+/* A bundle is refused as a whole, or answered as its clauses are, one call each; a refused one with its `no` line. */
+static void hold_clauses(const Call *whole)
+{
+    int64_t written = 0;
+    int wrong = wrong_with(whole->sheet, whole->bytes);
+    HOLD(wrong == 0 ? whole->number >= 0 : whole->number == -wrong);
+    for (size_t at = 0; wrong == 0 && at < whole->bytes;) {
+        Call clause = {.function = EVENTS, .sheet = whole->sheet + at + OPENING};
+        clause.bytes = until_clause(clause.sheet, whole->bytes - at - OPENING);
+        clause = answered(clause, 0, most_room(&clause), ONE_FILL);
+        if (FENOMIRASK_REFUSED(clause.number)) {
+            size_t line = FENOMIRASK_LINE(clause.number);
+            int refusal = FENOMIRASK_REFUSAL(clause.number);
+            HOLD(line > 0);
+            clause.number = snprintf((char *)clause.out, FENOMIRASK_EVENT_ROOM, "no\t%zu\t%d\n", line, refusal);
+        }
+        HOLD(clause.number <= whole->number - written);
+        HOLD(memcmp(whole->out + written, clause.out, (size_t)clause.number) == 0);
+        written += clause.number;
+        at += OPENING + clause.bytes;
+        free(clause.out);
+    }
+    HOLD(wrong != 0 || whole->number == written);
+}
+
 int LLVMFuzzerTestOneInput(const uint8_t *input, size_t bytes)
 {
     if (bytes < HEAD_BYTES)
         return -1;
-    Call call = {.function = FUNCTION == CHECK ? CHECK : EVENTS, .sheet = input + HEAD_BYTES, .bytes = bytes - HEAD_BYTES};
+    Call call = {.function = FUNCTION == LINE ? EVENTS : FUNCTION, .sheet = input + HEAD_BYTES, .bytes = bytes - HEAD_BYTES};
     size_t room = input[0] + 256u * input[1];
     call = held(call, room);
     size_t last = call.number > 0 ? (size_t)call.number - 1 : 0;
@@ -143,6 +209,8 @@ int LLVMFuzzerTestOneInput(const uint8_t *input, size_t bytes)
         HOLD(call.number == 9 && (memcmp(call.out, "accepted\n", 9) == 0 || memcmp(call.out, "rejected\n", 9) == 0));
     if (FUNCTION == LINE && call.bytes <= FENOMIRASK_SHEET_BYTES)
         hold_lines(&call, room);
+    if (FUNCTION == BUNDLE)
+        hold_clauses(&call);
     free(call.out);
     return 0;
 }

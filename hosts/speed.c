@@ -1,6 +1,6 @@
 /* Answers the sheets of a file again and again, and says what a round takes.
  *
- *     speed events|lines|check ROUNDS FILE
+ *     speed events|lines|check|bundle ROUNDS FILE
  *
  * The file holds sheets in frames: a decimal byte count, an LF, and so many bytes. Each sheet is answered once, then all
  * of them ROUNDS times in turn. `lines` gives an event sheet line by line. Prints a checksum of all answers (FNV-1a, 64
@@ -26,6 +26,7 @@ static struct {
 static size_t sheet_count;
 static uint8_t input[MOST_BYTES];
 static uint8_t out[ROOM];
+static const char usage[] = "usage: speed events|lines|check|bundle ROUNDS FILE";
 
 static void stop(const char *text)
 {
@@ -59,7 +60,9 @@ static Answering *answering_of(const char *word)
         return lines;
     if (strcmp(word, "check") == 0)
         return fenomirask_check;
-    stop("usage: speed events|lines|check ROUNDS FILE");
+    if (strcmp(word, "bundle") == 0)
+        return fenomirask_bundle;
+    stop(usage);
     return NULL;
 }
 
@@ -94,7 +97,7 @@ int main(int count, char **words)
 {
     uint64_t sum = 0xcbf29ce484222325, bytes = 0, start;
     if (count != 4)
-        stop("usage: speed events|lines|check ROUNDS FILE");
+        stop(usage);
     Answering *answering = answering_of(words[1]);
     unsigned long rounds = strtoul(words[2], NULL, 10);
     read_sheets(words[3]);

@@ -2,12 +2,12 @@
  *
  *     tests STREAM...
  *
- * A stream holds sheets with their answers, each led by a line: the kind, `events` or `check`, the bytes of the sheet
- * and those of the answer. Each call is made three times: the lent parts stand at the start of memory that may be
+ * A stream holds sheets with their answers, each led by a line: the kind, `events`, `check` or `bundle`, the bytes of the
+ * sheet and those of the answer. Each call is made three times: the lent parts stand at the start of memory that may be
  * touched, at its end, and between guard bytes. Afterwards the sheet and every byte that the answer does not name must
  * be as they were. Each event sheet is also given line by line, its lines at these places in turn, and has to come to
- * the same. Prints what fails, and last how many calls passed and failed; exit 1 if any failed or a stream is
- * malformed.
+ * the same; and as a clause of bundles, which have to come to what their clauses do, as those of the stream have. Prints
+ * what fails, and last how many calls passed and failed; exit 1 if any failed or a stream is malformed.
  */
 #define _DEFAULT_SOURCE
 #include <pthread.h>
@@ -25,21 +25,22 @@ enum {
     LARGE_ROOM = 1 << 20, /* room for every answer */
     SHOWN = 20,
     SPOILT_EACH = 8, /* numbers that are spoilt in the state of each sheet of a stream */
-    THREADS = 4      /* for each function */
+    THREADS = 4      /* for each way to the answers */
 };
 
 typedef int64_t sheet_function(const uint8_t *sheet, size_t sheet_bytes, uint8_t *out, size_t out_bytes);
 
-/* The exported functions that answer whole sheets, and the stack each needs. */
+enum { EVENTS, CHECK, BUNDLE, FUNCTIONS };
+
+/* The exported functions that answer whole sheets and bundles. */
 static const struct function {
     const char *word;
     sheet_function *answer;
-    size_t stack;
-} functions[] = {
-    {"events", fenomirask_events, FENOMIRASK_EVENTS_STACK},
-    {"check", fenomirask_check, FENOMIRASK_CHECK_STACK},
+} functions[FUNCTIONS] = {
+    [EVENTS] = {"events", fenomirask_events},
+    [CHECK] = {"check", fenomirask_check},
+    [BUNDLE] = {"bundle", fenomirask_bundle},
 };
-enum { FUNCTIONS = sizeof functions / sizeof functions[0] };
 
 static size_t passed, failed;
 
@@ -139,12 +140,15 @@ static void expect(const char *what, const struct function *f, const void *sheet
     }
 }
 
-/* A sheet that is answered with the text: with large room, with exact room, with one byte less and with none. */
+/* A sheet that is answered with the text: with large room, with exact room, and where there is a text with one byte less
+ * and with none. */
 static void expect_text(const char *what, const struct function *f, const void *sheet, size_t sheet_bytes, size_t room,
                         const void *text, size_t bytes)
 {
     expect(what, f, sheet, sheet_bytes, room, (int64_t)bytes, text);
     expect(what, f, sheet, sheet_bytes, bytes, (int64_t)bytes, text);
+    if (bytes == 0)
+        return;
     expect(what, f, sheet, sheet_bytes, bytes - 1, -FENOMIRASK_NO_ROOM, "");
     expect(what, f, sheet, sheet_bytes, 0, -FENOMIRASK_NO_ROOM, "");
 }
@@ -182,19 +186,28 @@ static size_t repeat(uint8_t *at, const char *line, size_t times)
     return times * bytes;
 }
 
+/* Where the line behind this one starts, or the bytes end. */
+static size_t next_line(const uint8_t *sheet, size_t sheet_bytes, size_t at)
+{
+    const uint8_t *feed = memchr(sheet + at, '\n', sheet_bytes - at);
+    return feed == NULL ? sheet_bytes : (size_t)(feed - sheet) + 1;
+}
+
+/* Document 01's sheet 1, and what it prints. */
+static const char first[] = "temp\tl1\t1\tl1:2\nperm\t1\nhead\t0\t1\nvar\tf\ts\th\t0\nvar\tf\ts\th\t1\n";
+static const char first_ends[] = "at\tx1\nget_variable\ty1\t2\nat\ty1\nend\t3\t1\n";
+
 static void whole_sheets(void)
 {
-    static const char *const empty[FUNCTIONS] = {"end\t1\t0\n", "accepted\n"};
-    static const char first[] = "temp\tl1\t1\tl1:2\nperm\t1\nhead\t0\t1\nvar\tf\ts\th\t0\nvar\tf\ts\th\t1\n";
-    static const char first_ends[] = "at\tx1\nget_variable\ty1\t2\nat\ty1\nend\t3\t1\n";
+    static const char *const empty[] = {[EVENTS] = "end\t1\t0\n", [CHECK] = "accepted\n"};
     static const char tenth[] = "h\t1\t0\nh\t2\t0\nget_value\tx1\t2\n";
     static const char uncalled[] = "g\t1\t0\nput_variable\tx5\t1\n";
     static uint8_t sheet[2 * FENOMIRASK_SHEET_BYTES];
-    const struct function *events = &functions[0], *check = &functions[1];
+    const struct function *events = &functions[EVENTS], *check = &functions[CHECK];
     size_t bytes;
     int i;
 
-    for (i = 0; i < FUNCTIONS; i++) {
+    for (i = EVENTS; i <= CHECK; i++) {
         const struct function *f = &functions[i];
         expect_text("an empty sheet", f, "", 0, ROOM, empty[i], strlen(empty[i]));
         memset(sheet, '\n', sizeof sheet);
@@ -790,15 +803,12 @@ static int64_t by_lines(const uint8_t *sheet, size_t sheet_bytes, uint8_t *out, 
         return -FENOMIRASK_FULL;
     fenomirask_fresh(&state);
     while (!ended) {
-        const uint8_t *feed;
         int64_t got;
         ended = at == sheet_bytes;
         if (ended) {
             got = fenomirask_end(&state, text, sizeof text);
         } else {
-            size_t bytes;
-            feed = memchr(sheet + at, '\n', sheet_bytes - at);
-            bytes = feed == NULL ? sheet_bytes - at : (size_t)(feed - (sheet + at)) + 1;
+            size_t bytes = next_line(sheet, sheet_bytes, at) - at;
             got = fenomirask_event(&state, sheet + at, bytes, text, sizeof text);
             at += bytes;
             line++;
@@ -830,8 +840,7 @@ static void expect_by_lines(const char *what, const struct function *f, const ui
         wanted = f->answer(sheet, sheet_bytes, whole, sizeof whole);
     fenomirask_fresh(&state);
     while (at < sheet_bytes && written <= LARGE_ROOM) {
-        const uint8_t *feed = memchr(sheet + at, '\n', sheet_bytes - at);
-        bytes = feed == NULL ? sheet_bytes - at : (size_t)(feed - (sheet + at)) + 1;
+        bytes = next_line(sheet, sheet_bytes, at) - at;
         s = state;
         line++;
         got = call(&state, sheet + at, bytes, FENOMIRASK_EVENT_ROOM, (enum placement)(turn++ % PLACEMENTS),
@@ -869,6 +878,255 @@ static void expect_by_lines(const char *what, const struct function *f, const ui
         spoilt(&s, &state, spoilt_at, turn);
         expect_validity(what, &s, is_valid(&s), turn++);
     }
+}
+
+/* ---- Bundles */
+
+static const char opening[] = "clause\n";
+enum { OPENING = sizeof opening - 1 };
+
+/* Whether a line has the word `clause`; with its LF, and whatever follows it. */
+static int opens(const uint8_t *line, size_t bytes)
+{
+    return bytes >= OPENING && (memcmp(line, opening, OPENING) == 0 || memcmp(line, "clause\t", OPENING) == 0);
+}
+
+/* Where the lines from here on up to the next `clause` end. */
+static size_t clause_end(const uint8_t *bundle, size_t bundle_bytes, size_t at)
+{
+    while (at < bundle_bytes && !opens(bundle + at, bundle_bytes - at))
+        at = next_line(bundle, bundle_bytes, at);
+    return at;
+}
+
+/* What a clause prints: the answer to its lines, or its `no` line. Returns the bytes. */
+static size_t put_clause_text(const uint8_t *lines, size_t bytes, uint8_t *text)
+{
+    int64_t got = fenomirask_events(lines, bytes, text, LARGE_ROOM);
+    return FENOMIRASK_REFUSED(got)
+               ? (size_t)sprintf((char *)text, "no\t%zu\t%d\n", FENOMIRASK_LINE(got), FENOMIRASK_REFUSAL(got))
+               : (size_t)got;
+}
+
+/* A bundle that may not be refused but for the room: it prints what its clauses do, one call each. */
+static void expect_clauses(const char *what, const uint8_t *bundle, size_t bundle_bytes)
+{
+    static uint8_t text[2 * LARGE_ROOM];
+    size_t at = 0, bytes = 0;
+    while (at < bundle_bytes && bytes <= LARGE_ROOM) {
+        size_t from = at + OPENING;
+        at = clause_end(bundle, bundle_bytes, from);
+        bytes += put_clause_text(bundle + from, at - from, text + bytes);
+    }
+    expect_text(what, &functions[BUNDLE], bundle, bundle_bytes, bytes + FENOMIRASK_EVENT_ROOM, text, bytes);
+    if (bytes > ROOM)
+        expect(what, &functions[BUNDLE], bundle, bundle_bytes, ROOM, -FENOMIRASK_NO_ROOM, "");
+}
+
+/* Puts a clause of these lines at the end of a bundle. Returns its bytes then. */
+static size_t put_clause(uint8_t *bundle, size_t bundle_bytes, const void *lines, size_t bytes)
+{
+    memcpy(bundle + bundle_bytes, opening, OPENING);
+    if (bytes != 0)
+        memcpy(bundle + bundle_bytes + OPENING, lines, bytes);
+    return bundle_bytes + OPENING + bytes;
+}
+
+/* Whether a sheet may be a clause: its lines are whole, none has the word `clause`, and a bundle has place for them. */
+static int may_be_clause(const uint8_t *sheet, size_t bytes)
+{
+    return bytes + OPENING <= FENOMIRASK_SHEET_BYTES && (bytes == 0 || sheet[bytes - 1] == '\n')
+           && clause_end(sheet, bytes, 0) == bytes;
+}
+
+/* Two sheets as bundles: the first alone, both, and both in the other order. */
+static void expect_as_clauses(const char *what, const uint8_t *one, size_t one_bytes, const uint8_t *other,
+                              size_t other_bytes)
+{
+    static uint8_t bundle[2 * FENOMIRASK_SHEET_BYTES];
+    size_t bytes;
+    if (!may_be_clause(one, one_bytes))
+        return;
+    expect_clauses(what, bundle, put_clause(bundle, 0, one, one_bytes));
+    if (!may_be_clause(other, other_bytes) || 2 * OPENING + one_bytes + other_bytes > FENOMIRASK_SHEET_BYTES)
+        return;
+    bytes = put_clause(bundle, 0, one, one_bytes);
+    expect_clauses(what, bundle, put_clause(bundle, bytes, other, other_bytes));
+    bytes = put_clause(bundle, 0, other, other_bytes);
+    expect_clauses(what, bundle, put_clause(bundle, bytes, one, one_bytes));
+}
+
+/* Which refusal of a bundle comes first, and what is a clause's own line. */
+static void bundle_lines(void)
+{
+    static const struct {
+        const char *what, *bundle;
+        int refusal;
+    } refused[] = {
+        {"an LF", "\n", FENOMIRASK_FORBIDDEN_ORDER},
+        {"no clause", "perm\t1\n", FENOMIRASK_FORBIDDEN_ORDER},
+        {"a line before the first clause", "perm\t1\nclause\n", FENOMIRASK_FORBIDDEN_ORDER},
+        {"an empty line before the first clause", "\nclause\n", FENOMIRASK_FORBIDDEN_ORDER},
+        {"a longer word first", "clauses\n", FENOMIRASK_FORBIDDEN_ORDER},
+        {"a shorter word first", "claus\n", FENOMIRASK_FORBIDDEN_ORDER},
+        {"a blank behind the first word", "clause \n", FENOMIRASK_FORBIDDEN_ORDER},
+        {"a blank before the first word", " clause\n", FENOMIRASK_FORBIDDEN_ORDER},
+        {"a CR behind the first word", "clause\r\nclause\n", FENOMIRASK_FORBIDDEN_ORDER},
+        {"a capital first", "Clause\nclause\n", FENOMIRASK_FORBIDDEN_ORDER},
+        {"an empty field first", "\tclause\n", FENOMIRASK_FORBIDDEN_ORDER},
+        {"an empty field more", "clause\t\n", FENOMIRASK_UNKNOWN_FORM},
+        {"a field more", "clause\t1\n", FENOMIRASK_UNKNOWN_FORM},
+        {"fields more, behind a clause", "clause\nperm\t1\nclause\t1\t2\nclause\n", FENOMIRASK_UNKNOWN_FORM},
+        {"a field more, behind a refused clause", "clause\nx\nclause\t\n", FENOMIRASK_UNKNOWN_FORM},
+        {"a stray line before a field more", "x\nclause\t1\n", FENOMIRASK_FORBIDDEN_ORDER},
+        {"a longer word before a field more", "clauses\nclause\t1\n", FENOMIRASK_FORBIDDEN_ORDER},
+        {"`clause` without LF", "clause", FENOMIRASK_UNKNOWN_FORM},
+        {"a field more without LF", "clause\t1", FENOMIRASK_UNKNOWN_FORM},
+        {"a last line without LF", "clause\nperm\t1", FENOMIRASK_UNKNOWN_FORM},
+        {"a last `clause` without LF", "clause\nclause", FENOMIRASK_UNKNOWN_FORM},
+        {"a stray line without LF", "x", FENOMIRASK_UNKNOWN_FORM},
+        {"a stray line, and the last without LF", "x\nclause\nreset", FENOMIRASK_UNKNOWN_FORM},
+    };
+    static const struct {
+        const char *what, *bundle, *text;
+    } answered[] = {
+        {"no byte", "", ""},
+        {"an empty clause", "clause\n", "end\t1\t0\n"},
+        {"two empty clauses", "clause\nclause\n", "end\t1\t0\nend\t1\t0\n"},
+        {"an empty line", "clause\n\n", "no\t1\t1\n"},
+        {"a longer word", "clause\nclauses\nclause\n", "no\t1\t1\nend\t1\t0\n"},
+        {"a shorter word", "clause\nclaus\nclause\n", "no\t1\t1\nend\t1\t0\n"},
+        {"a blank behind the word", "clause\nreset\nclause \nclause\n", "no\t2\t1\nend\t1\t0\n"},
+        {"a blank before the word", "clause\n clause\n", "no\t1\t1\n"},
+        {"a CR behind the word", "clause\nclause\r\n", "no\t1\t1\n"},
+        {"a capital", "clause\nClause\n", "no\t1\t1\n"},
+        {"an empty field before the word", "clause\n\tclause\n", "no\t1\t1\n"},
+        {"what is refused goes no further", "clause\nx\nperm\t1\nclause\nperm\t1\n", "no\t1\t1\nend\t1\t0\n"},
+        {"records behind another's events", "clause\nreset\nclause\nperm\t1\n", "end\t1\t0\nend\t1\t0\n"},
+        {"another clause's variable", "clause\nperm\t1\nclause\nsafe\t0\n", "end\t1\t0\nno\t1\t3\n"},
+    };
+    size_t i;
+    for (i = 0; i < sizeof refused / sizeof refused[0]; i++) {
+        const char *bundle = refused[i].bundle;
+        expect_refusal(refused[i].what, &functions[BUNDLE], bundle, strlen(bundle), 0, refused[i].refusal);
+    }
+    for (i = 0; i < sizeof answered / sizeof answered[0]; i++) {
+        const char *bundle = answered[i].bundle, *text = answered[i].text;
+        expect_text(answered[i].what, &functions[BUNDLE], bundle, strlen(bundle), ROOM, text, strlen(text));
+        expect_clauses(answered[i].what, (const uint8_t *)bundle, strlen(bundle));
+    }
+}
+
+/* Bundles as long as they may be, and one byte more. */
+static void long_bundles(void)
+{
+    static uint8_t bundle[2 * FENOMIRASK_SHEET_BYTES];
+    const struct function *f = &functions[BUNDLE];
+    size_t bytes;
+    memset(bundle, '\n', sizeof bundle);
+    expect_refusal("65,536 LFs", f, bundle, 65536, 0, FENOMIRASK_FORBIDDEN_ORDER);
+    expect_refusal("65,537 LFs", f, bundle, 65537, 0, FENOMIRASK_FULL);
+    expect_refusal("131,072 LFs", f, bundle, 131072, 0, FENOMIRASK_FULL);
+    memset(bundle, 0xFF, sizeof bundle);
+    expect_refusal("65,536 bytes and no LF", f, bundle, 65536, 0, FENOMIRASK_UNKNOWN_FORM);
+    expect_refusal("65,537 bytes and no LF", f, bundle, 65537, 0, FENOMIRASK_FULL);
+    repeat(bundle, "clause\t1\n", 1);
+    expect_refusal("65,537 bytes, a field more", f, bundle, 65537, 0, FENOMIRASK_FULL);
+
+    bytes = repeat(bundle, "clause\ntail\t0\ntail\t0\ntail\t0\n", 1);
+    bytes += repeat(bundle + bytes, "reset\n", 10918);
+    count(bytes == 65536, "a bundle's length", f->word, 0, (int64_t)bytes, 65536);
+    expect_text("65,536 bytes of good lines", f, bundle, bytes, ROOM, "end\t1\t0\n", 8);
+    expect_refusal("65,535 bytes, the last LF missing", f, bundle, bytes - 1, 0, FENOMIRASK_UNKNOWN_FORM);
+    bundle[bytes] = '\n';
+    expect_refusal("65,537 bytes of lines", f, bundle, bytes + 1, 0, FENOMIRASK_FULL);
+
+    bytes = repeat(bundle, opening, 1);
+    put_long_line(bundle + bytes, 65536 - bytes, "head", "\t-");
+    expect_text("a line as long as it may be, too many arguments", f, bundle, 65536, ROOM, "no\t1\t7\n", 7);
+    put_long_line(bundle + bytes, 65536 - bytes, "temp\th\t1\th:1", ",h:1");
+    expect_text("a line as long as it may be, too many uses", f, bundle, 65536, ROOM, "no\t1\t7\n", 7);
+    put_long_line(bundle, 65536, "clause\t", "-");
+    expect_refusal("a `clause` line as long as it may be", f, bundle, 65536, 0, FENOMIRASK_UNKNOWN_FORM);
+}
+
+/* A clause that so many marks let print 21 bytes each, its first mark the more. Returns its bytes. */
+static size_t put_printing(uint8_t *at, size_t marks)
+{
+    size_t bytes = repeat(at, "clause\ntemp\tl1\t65535\t-\nargs\t8\nvar\tq\td\tm1\t0\n", 1);
+    return bytes + repeat(at + bytes, "var\tf\td\th\t0\n", marks);
+}
+
+/* Answers as long as a bundle may be, and longer; what a refused clause printed counts nowhere. */
+static void long_bundle_answers(void)
+{
+    static uint8_t bundle[2 * FENOMIRASK_SHEET_BYTES], text[LARGE_ROOM];
+    const struct function *f = &functions[BUNDLE];
+    static const char late[] = "no\t3404\t1\nend\t1\t0\n";
+    size_t bytes, text_bytes;
+
+    bytes = repeat(bundle, opening, 8192);
+    text_bytes = repeat(text, "end\t1\t0\n", 8192);
+    count(text_bytes == ROOM, "an answer's length", f->word, 0, (int64_t)text_bytes, ROOM);
+    expect_text("8,192 empty clauses", f, bundle, bytes, LARGE_ROOM, text, text_bytes);
+    bytes = repeat(bundle, opening, 8193);
+    text_bytes = repeat(text, "end\t1\t0\n", 8193);
+    expect("8,193 empty clauses", f, bundle, bytes, ROOM, -FENOMIRASK_NO_ROOM, "");
+    expect_text("8,193 empty clauses", f, bundle, bytes, LARGE_ROOM, text, text_bytes);
+    bytes = repeat(bundle, opening, FENOMIRASK_SHEET_BYTES / OPENING);
+    expect_clauses("as many clauses as there may be", bundle, bytes);
+
+    bytes = put_printing(bundle, 3400);
+    expect_clauses("one clause that prints more than 65,536 bytes", bundle, bytes);
+    expect_longer("one clause that prints more than 65,536 bytes", f, bundle, bytes);
+    bytes += repeat(bundle + bytes, "x\nclause\n", 1);
+    expect_text("so one, refused at its end", f, bundle, bytes, ROOM, late, strlen(late));
+    expect_text("so one, refused at its end", f, bundle, bytes, LARGE_ROOM, late, strlen(late));
+
+    bytes = put_printing(bundle, 3200);
+    bytes += put_printing(bundle + bytes, 2100);
+    bytes += repeat(bundle + bytes, "x\n", 1);
+    expect_longer("more than 65,536 bytes, and a long clause refused at its end", f, bundle, bytes);
+    expect_clauses("more than 65,536 bytes, and a long clause refused at its end", bundle, bytes);
+    bytes += repeat(bundle + bytes, opening, 1);
+    expect_clauses("the same, and a clause behind it", bundle, bytes);
+    bytes = put_printing(bundle, 2100);
+    bytes += repeat(bundle + bytes, "x\n", 1);
+    bytes += put_printing(bundle + bytes, 3200);
+    expect_longer("a long clause refused at its end, and more than 65,536 bytes", f, bundle, bytes);
+    expect_clauses("a long clause refused at its end, and more than 65,536 bytes", bundle, bytes);
+}
+
+/* Four clauses in each order: their answers stand in that order, whatever is before them. */
+static void exchanged_clauses(void)
+{
+    static const struct {
+        const char *lines, *text;
+    } clauses[] = {
+        {"", "end\t1\t0\n"},
+        {first, first_ends},
+        {"perm\t1\nreset\nperm\t1\n", "no\t3\t2\n"},
+        {"open\t1\t2\t3\nargs\t63\ngive\t5\n", "end\t64\t0\n"},
+    };
+    enum { CLAUSES = sizeof clauses / sizeof clauses[0], ORDERS = 1 << 2 * CLAUSES };
+    unsigned order, orders = 0;
+    for (order = 0; order < ORDERS; order++) {
+        uint8_t bundle[1024], text[1024];
+        size_t bytes = 0, text_bytes = 0, i;
+        unsigned taken = 0;
+        for (i = 0; i < CLAUSES; i++)
+            taken |= 1U << (order >> 2 * i) % CLAUSES;
+        if (taken != (1U << CLAUSES) - 1)
+            continue;
+        orders++;
+        for (i = 0; i < CLAUSES; i++) {
+            unsigned at = (order >> 2 * i) % CLAUSES;
+            bytes = put_clause(bundle, bytes, clauses[at].lines, strlen(clauses[at].lines));
+            text_bytes += repeat(text + text_bytes, clauses[at].text, 1);
+        }
+        expect_text("clauses in each order", &functions[BUNDLE], bundle, bytes, ROOM, text, text_bytes);
+    }
+    count(orders == 24, "clauses in each order", "orders", 0, orders, 24);
 }
 
 /* ---- Sheets of a stream */
@@ -917,14 +1175,18 @@ static uint8_t *read_all(const char *path, size_t *bytes)
     return data;
 }
 
-/* The number that a printed answer stands for. */
-static int64_t wanted_of(const uint8_t *text, size_t bytes)
+/* The number that a printed answer stands for. A bundle's answer may start with the `no` line of a clause, which is never on
+ * line 0. */
+static int64_t wanted_of(const struct function *f, const uint8_t *text, size_t bytes)
 {
+    const char *refused = f == &functions[BUNDLE] ? "no\t0\t" : "no\t";
+    char told[32] = "";
     unsigned long line;
     int refusal;
-    if (bytes < 3 || memcmp(text, "no\t", 3) != 0)
+    if (bytes < strlen(refused) || memcmp(text, refused, strlen(refused)) != 0)
         return (int64_t)bytes;
-    if (sscanf((const char *)text, "no\t%lu\t%d", &line, &refusal) != 2)
+    memcpy(told, text, bytes < sizeof told ? bytes : sizeof told - 1);
+    if (sscanf(told, "no\t%lu\t%d", &line, &refusal) != 2)
         return 0;
     return -(int64_t)(16 * line + (unsigned)refusal);
 }
@@ -947,11 +1209,12 @@ static struct stream read_stream(const char *path)
             if (strcmp(word, functions[i].word) == 0)
                 one.function = &functions[i];
         if (one.function == NULL || one.sheet_bytes > bytes - at || one.text_bytes > bytes - at - one.sheet_bytes
-            || one.text_bytes == 0 || one.sheet_bytes > 2 * FENOMIRASK_SHEET_BYTES || one.text_bytes > ROOM)
+            || (one.text_bytes == 0 && one.function != &functions[BUNDLE])
+            || one.sheet_bytes > 2 * FENOMIRASK_SHEET_BYTES || one.text_bytes > ROOM)
             malformed(path, stream.count + 1);
         one.sheet = data + at;
         one.text = one.sheet + one.sheet_bytes;
-        one.wanted = wanted_of(one.text, one.text_bytes);
+        one.wanted = wanted_of(one.function, one.text, one.text_bytes);
         at += one.sheet_bytes + one.text_bytes;
         if ((stream.count & (stream.count - 1)) == 0)
             stream.sheets = realloc(stream.sheets, (2 * stream.count + 1) * sizeof one);
@@ -966,6 +1229,7 @@ static struct stream read_stream(const char *path)
 
 static void run_stream(const struct stream *stream)
 {
+    const struct sheet none = {&functions[EVENTS], (const uint8_t *)"", NULL, 0, 0, 0}, *last = &none;
     size_t i;
     for (i = 0; i < stream->count; i++) {
         const struct sheet *one = &stream->sheets[i];
@@ -978,12 +1242,34 @@ static void run_stream(const struct stream *stream)
                            FENOMIRASK_REFUSAL(one->wanted));
         if (one->wanted == -FENOMIRASK_NO_ROOM)
             expect_longer(what, one->function, one->sheet, one->sheet_bytes);
-        if (one->function == &functions[0])
+        if (one->function == &functions[BUNDLE] && (one->wanted >= 0 || one->wanted == -FENOMIRASK_NO_ROOM))
+            expect_clauses(what, one->sheet, one->sheet_bytes);
+        if (one->function == &functions[EVENTS]) {
             expect_by_lines(what, one->function, one->sheet, one->sheet_bytes, one->wanted);
+            expect_as_clauses(what, one->sheet, one->sheet_bytes, last->sheet, last->sheet_bytes);
+            last = one;
+        }
     }
 }
 
 /* ---- Threads at once, each with no more stack than the header says */
+
+/* An event sheet as the only clause of a bundle, where it may be one, as fenomirask_events answers it. */
+static int64_t in_bundle(const uint8_t *sheet, size_t sheet_bytes, uint8_t *out, size_t room)
+{
+    uint8_t *bundle;
+    int64_t got;
+    if (!may_be_clause(sheet, sheet_bytes))
+        return fenomirask_events(sheet, sheet_bytes, out, room);
+    bundle = malloc(OPENING + sheet_bytes);
+    if (bundle == NULL) {
+        printf("tests: no memory\n");
+        exit(2);
+    }
+    got = fenomirask_bundle(bundle, put_clause(bundle, 0, sheet, sheet_bytes), out, room);
+    free(bundle);
+    return got < 0 ? got : wanted_of(&functions[EVENTS], out, (size_t)got);
+}
 
 /* Whose sheets a thread takes, and how it comes to the answers. */
 static const struct work {
@@ -991,9 +1277,11 @@ static const struct work {
     sheet_function *answer;
     size_t stack;
 } works[] = {
-    {&functions[0], fenomirask_events, FENOMIRASK_EVENTS_STACK},
-    {&functions[1], fenomirask_check, FENOMIRASK_CHECK_STACK},
-    {&functions[0], by_lines, FENOMIRASK_EVENT_STACK},
+    {&functions[EVENTS], fenomirask_events, FENOMIRASK_EVENTS_STACK},
+    {&functions[CHECK], fenomirask_check, FENOMIRASK_CHECK_STACK},
+    {&functions[BUNDLE], fenomirask_bundle, FENOMIRASK_BUNDLE_STACK},
+    {&functions[EVENTS], by_lines, FENOMIRASK_EVENT_STACK},
+    {&functions[EVENTS], in_bundle, FENOMIRASK_BUNDLE_STACK},
 };
 enum { WORKS = sizeof works / sizeof works[0] };
 
@@ -1061,6 +1349,10 @@ int main(int words, char **paths)
     single_lines();
     long_lines();
     spoilt_states();
+    bundle_lines();
+    long_bundles();
+    long_bundle_answers();
+    exchanged_clauses();
     for (i = 1; i < words; i++) {
         struct stream stream = read_stream(paths[i]);
         run_stream(&stream);

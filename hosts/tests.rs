@@ -2,11 +2,12 @@
 //!
 //!     tests STREAM...
 //!
-//! A stream holds sheets with their answers, each led by a line: the kind, `events` or `check`, the bytes of the sheet
-//! and those of the answer. The sheet and the room for the answer are lent between guard bytes; afterwards the sheet
-//! and every byte that the answer does not name must be as they were. Each event sheet is also given line by line, and
-//! has to come to the same. Prints what fails, and last how many calls passed and failed; exit 1 if any failed or a
-//! stream is malformed.
+//! A stream holds sheets with their answers, each led by a line: the kind, `events`, `check` or `bundle`, the bytes of the
+//! sheet and those of the answer. The sheet and the room for the answer are lent between guard bytes; afterwards the
+//! sheet and every byte that the answer does not name must be as they were. Each event sheet is also given line by line,
+//! and has to come to the same; and as a clause of bundles, which have to come to what their clauses do, as those of the
+//! stream have. Prints what fails, and last how many calls passed and failed; exit 1 if any failed or a stream is
+//! malformed.
 use std::process::exit;
 
 mod fenomirask;
@@ -26,11 +27,16 @@ const THREADS: usize = 4;
 
 type Answer = fn(&[u8], &mut [u8]) -> Result<usize, Refused>;
 
-/// The functions that answer whole sheets, and their answers to an empty one.
-const FUNCTIONS: [(&str, Answer, &[u8]); 2] = [
-    ("events", fenomirask::events, b"end\t1\t0\n"),
+/// The functions that answer sheets, and their answers to an empty one.
+const SHEET_FUNCTIONS: [(&str, Answer, &[u8]); 2] = [
+    ("events", fenomirask::events, END),
     ("check", fenomirask::check, b"accepted\n"),
 ];
+
+/// What a clause without lines prints.
+const END: &[u8] = b"end\t1\t0\n";
+/// The line that begins a clause.
+const OPENING: &[u8] = b"clause\n";
 
 const NO_ROOM: Refused = Refused {
     line: 0,
@@ -92,12 +98,15 @@ impl Counts {
         }
     }
 
-    /// A sheet that is answered with the text: with room in plenty, exact room, one byte less and none.
+    /// A sheet that is answered with the text: with room in plenty, exact room, and where there is a text with one byte
+    /// less and none.
     fn expect_text(&mut self, what: &str, answer: Answer, sheet: &[u8], room: usize, text: &[u8]) {
         self.expect(what, answer, sheet, room, Ok(text));
         self.expect(what, answer, sheet, text.len(), Ok(text));
-        self.expect(what, answer, sheet, text.len() - 1, Err(NO_ROOM));
-        self.expect(what, answer, sheet, 0, Err(NO_ROOM));
+        if !text.is_empty() {
+            self.expect(what, answer, sheet, text.len() - 1, Err(NO_ROOM));
+            self.expect(what, answer, sheet, 0, Err(NO_ROOM));
+        }
     }
 
     /// A sheet that is refused whatever the room.
@@ -125,7 +134,7 @@ impl Counts {
 // ---- Sheets of the tests' own
 
 fn whole_sheets(counts: &mut Counts) {
-    for (word, answer, empty) in FUNCTIONS {
+    for (word, answer, empty) in SHEET_FUNCTIONS {
         let first_line = Refused {
             line: 1,
             refusal: Refusal::UnknownForm,
@@ -155,7 +164,7 @@ fn whole_sheets(counts: &mut Counts) {
         fenomirask::events,
         sheet.as_bytes(),
         ROOM,
-        b"end\t1\t0\n",
+        END,
     );
     let sheet = ["tail\t0\n".repeat(5), "reset\n".repeat(10_917)].concat();
     assert_eq!(sheet.len(), SHEET_BYTES + 1);
@@ -671,31 +680,228 @@ fn by_lines(sheet: &[u8]) -> (Result<Vec<u8>, Refused>, bool) {
     (end.map(|end| [text, end].concat()), kept && well)
 }
 
+// ---- Bundles
+
+/// Whether a line's word is `clause`.
+fn opens(line: &[u8]) -> bool {
+    let word = line.split(|&byte| byte == b'\t' || byte == b'\n').next();
+    word == Some(b"clause")
+}
+
+/// The bundle of clauses with these lines.
+fn bundled(clauses: &[&[u8]]) -> Vec<u8> {
+    clauses
+        .iter()
+        .flat_map(|lines| [OPENING, lines].concat())
+        .collect()
+}
+
+/// What a clause prints: the answer to its lines, or its `no` line.
+fn clause_text(lines: &[u8]) -> Vec<u8> {
+    let mut out = vec![0; LARGE_ROOM];
+    match fenomirask::events(lines, &mut out) {
+        Ok(written) => out[..written].to_vec(),
+        Err(Refused { line, refusal }) => {
+            format!("no\t{line}\t{}\n", refusal as usize).into_bytes()
+        }
+    }
+}
+
+/// The lines of each clause of a bundle that is not refused but for the room.
+fn clauses_of(bundle: &[u8]) -> Vec<Vec<u8>> {
+    let mut clauses: Vec<Vec<u8>> = Vec::new();
+    for line in bundle.split_inclusive(|&byte| byte == b'\n') {
+        match clauses.last_mut() {
+            Some(clause) if !opens(line) => clause.extend(line),
+            _ => clauses.push(Vec::new()),
+        }
+    }
+    clauses
+}
+
+/// Whether a sheet may be a clause: its lines are whole, none has the word `clause`, and a bundle has place for them.
+fn may_be_clause(sheet: &[u8]) -> bool {
+    sheet.len() + OPENING.len() <= SHEET_BYTES
+        && sheet.last().map_or(true, |&byte| byte == b'\n')
+        && !sheet.split_inclusive(|&byte| byte == b'\n').any(opens)
+}
+
+impl Counts {
+    /// A bundle that may not be refused but for the room: it prints what its clauses do, one call each.
+    fn expect_clauses(&mut self, what: &str, bundle: &[u8]) {
+        let text: Vec<u8> = clauses_of(bundle)
+            .iter()
+            .flat_map(|lines| clause_text(lines))
+            .collect();
+        if text.len() <= ROOM {
+            self.expect_text(what, fenomirask::bundle, bundle, ROOM, &text);
+        } else {
+            self.expect(what, fenomirask::bundle, bundle, ROOM, Err(NO_ROOM));
+            self.expect_text(what, fenomirask::bundle, bundle, LARGE_ROOM, &text);
+        }
+    }
+
+    /// Two sheets as bundles: the first alone, both, and both in the other order.
+    fn expect_as_clauses(&mut self, what: &str, one: &[u8], other: &[u8]) {
+        if !may_be_clause(one) {
+            return;
+        }
+        self.expect_clauses(what, &bundled(&[one]));
+        let both = bundled(&[one, other]);
+        if may_be_clause(other) && both.len() <= SHEET_BYTES {
+            self.expect_clauses(what, &both);
+            self.expect_clauses(what, &bundled(&[other, one]));
+        }
+    }
+}
+
+/// Which refusal of a bundle comes first, and what is a clause's own line.
+fn bundle_lines(counts: &mut Counts) {
+    let refused: [(&str, Refusal); 19] = [
+        ("\n", Refusal::ForbiddenOrder),
+        ("perm\t1\nclause\n", Refusal::ForbiddenOrder),
+        ("\nclause\n", Refusal::ForbiddenOrder),
+        ("clauses\n", Refusal::ForbiddenOrder),
+        ("claus\n", Refusal::ForbiddenOrder),
+        ("clause \n", Refusal::ForbiddenOrder),
+        ("clause\r\nclause\n", Refusal::ForbiddenOrder),
+        ("Clause\nclause\n", Refusal::ForbiddenOrder),
+        ("\tclause\n", Refusal::ForbiddenOrder),
+        ("x\nclause\t1\n", Refusal::ForbiddenOrder),
+        ("clauses\nclause\t1\n", Refusal::ForbiddenOrder),
+        ("clause\t\n", Refusal::UnknownForm),
+        ("clause\t1\n", Refusal::UnknownForm),
+        ("clause\nx\nclause\t1\nclause\n", Refusal::UnknownForm),
+        ("clause", Refusal::UnknownForm),
+        ("clause\t1", Refusal::UnknownForm),
+        ("clause\nperm\t1", Refusal::UnknownForm),
+        ("x", Refusal::UnknownForm),
+        ("x\nclause\nreset", Refusal::UnknownForm),
+    ];
+    for (bundle, refusal) in refused {
+        let (what, refused) = (format!("{bundle:?}"), on_line(0, refusal));
+        counts.expect_refusal(&what, fenomirask::bundle, bundle.as_bytes(), refused);
+    }
+    let answered: [(&str, &str); 11] = [
+        ("", ""),
+        ("clause\n", "end\t1\t0\n"),
+        ("clause\nclause\n", "end\t1\t0\nend\t1\t0\n"),
+        ("clause\n\n", "no\t1\t1\n"),
+        ("clause\nclauses\nclause\n", "no\t1\t1\nend\t1\t0\n"),
+        ("clause\nreset\nclause \n", "no\t2\t1\n"),
+        ("clause\nClause\n", "no\t1\t1\n"),
+        ("clause\nclause\r\n", "no\t1\t1\n"),
+        ("clause\n\tclause\n", "no\t1\t1\n"),
+        ("clause\nreset\nclause\nperm\t1\n", "end\t1\t0\nend\t1\t0\n"),
+        (
+            "clause\nperm\t1\nclause\nsafe\t0\n",
+            "end\t1\t0\nno\t1\t3\n",
+        ),
+    ];
+    for (bundle, text) in answered {
+        let (what, bundle) = (format!("{bundle:?}"), bundle.as_bytes());
+        counts.expect_text(&what, fenomirask::bundle, bundle, ROOM, text.as_bytes());
+        counts.expect_clauses(&what, bundle);
+    }
+    counts.count(fenomirask::bundle(&[], &mut []) == Ok(0), || {
+        "bundle, slices of nothing".to_string()
+    });
+}
+
+/// Bundles as long as they may be, and one byte more.
+fn long_bundles(counts: &mut Counts) {
+    for (byte, refusal) in [
+        (b'\n', Refusal::ForbiddenOrder),
+        (0xFF, Refusal::UnknownForm),
+    ] {
+        let (what, bytes) = (format!("bundle, bytes {byte}"), vec![byte; SHEET_BYTES + 1]);
+        let full = &bytes[..SHEET_BYTES];
+        counts.expect_refusal(&what, fenomirask::bundle, full, on_line(0, refusal));
+        counts.expect_refusal(&what, fenomirask::bundle, &bytes, TOO_LONG);
+    }
+    let lines = ["tail\t0\n".repeat(3), "reset\n".repeat(10_918)].concat();
+    let mut bundle = bundled(&[lines.as_bytes()]);
+    assert_eq!(bundle.len(), SHEET_BYTES);
+    counts.expect_text("a full bundle", fenomirask::bundle, &bundle, ROOM, END);
+    bundle.push(b'\n');
+    counts.expect_refusal("one byte more", fenomirask::bundle, &bundle, TOO_LONG);
+    let line = long_line(SHEET_BYTES - OPENING.len(), "temp\th\t1\th:1", ",h:1");
+    counts.expect_text(
+        "a line as long as it may be",
+        fenomirask::bundle,
+        &bundled(&[&line]),
+        ROOM,
+        b"no\t1\t7\n",
+    );
+}
+
+/// Lines whose marks print 21 bytes each.
+fn printing(marks: usize) -> String {
+    let first = "temp\tl1\t65535\t-\nargs\t8\nvar\tq\td\tm1\t0\n";
+    [first, &"var\tf\td\th\t0\n".repeat(marks)].concat()
+}
+
+/// Answers as long as a bundle may be, and longer; what a refused clause printed counts nowhere.
+fn long_bundle_answers(counts: &mut Counts) {
+    let bundle = OPENING.repeat(8_193);
+    let (text, fitting) = (END.repeat(8_193), OPENING.len() * 8_192);
+    counts.expect_text(
+        "8,192 empty clauses",
+        fenomirask::bundle,
+        &bundle[..fitting],
+        ROOM,
+        &text[..ROOM],
+    );
+    counts.expect_clauses("8,193 empty clauses", &bundle);
+    counts.expect_longer("8,193 empty clauses", fenomirask::bundle, &bundle);
+
+    let (long, refused) = (printing(3_400), printing(3_400) + "x\n");
+    let bundle = bundled(&[long.as_bytes()]);
+    counts.expect_clauses("one clause alone too long", &bundle);
+    counts.expect_longer("one clause alone too long", fenomirask::bundle, &bundle);
+    let bundle = bundled(&[refused.as_bytes(), b""]);
+    for room in [ROOM, LARGE_ROOM] {
+        counts.expect_text(
+            "a long clause refused at its end",
+            fenomirask::bundle,
+            &bundle,
+            room,
+            b"no\t3404\t1\nend\t1\t0\n",
+        );
+    }
+    let (long, refused) = (printing(3_200), printing(2_100) + "x\n");
+    let (long, refused) = (long.as_bytes(), refused.as_bytes());
+    for clauses in [[long, refused, b""], [refused, b"", long]] {
+        let bundle = bundled(&clauses);
+        counts.expect_longer("a late refusal", fenomirask::bundle, &bundle);
+        counts.expect_clauses("a late refusal", &bundle);
+    }
+}
+
 // ---- Sheets of a stream
 
 struct Sheet<'a> {
+    word: &'a str,
     answer: Answer,
-    is_of_events: bool,
     sheet: &'a [u8],
     wanted: Result<&'a [u8], Refused>,
 }
 
-/// What a printed answer stands for.
-fn wanted(text: &[u8]) -> Option<Result<&[u8], Refused>> {
-    match text.strip_prefix(b"no\t") {
-        None => (!text.is_empty()).then(|| Ok(text)),
-        Some(rest) => {
-            let (line, number) = std::str::from_utf8(rest)
-                .ok()?
-                .trim_end()
-                .split_once('\t')?;
-            let refusal = Refusal::of_number(number.parse().ok()?)?;
-            Some(Err(Refused {
-                line: line.parse().ok()?,
-                refusal,
-            }))
-        }
+/// What a printed answer stands for. A bundle's answer may start with the `no` line of a clause, which is never on line
+/// 0, and may be empty.
+fn wanted<'a>(word: &str, text: &'a [u8]) -> Option<Result<&'a [u8], Refused>> {
+    let is_refused = text.starts_with(if word == "bundle" {
+        b"no\t0\t"
+    } else {
+        b"no\t"
+    });
+    if !is_refused {
+        return (word == "bundle" || !text.is_empty()).then_some(Ok(text));
     }
+    let told = std::str::from_utf8(text).ok()?.trim_end();
+    let (line, number) = told.strip_prefix("no\t")?.split_once('\t')?;
+    let refusal = Refusal::of_number(number.parse().ok()?)?;
+    Some(Err(on_line(line.parse().ok()?, refusal)))
 }
 
 /// The first sheet of a stream, and what follows it.
@@ -706,7 +912,12 @@ fn first_sheet(data: &[u8]) -> Option<(Sheet<'_>, &[u8])> {
     let word = fields.next()?;
     let (sheet_bytes, text_bytes): (usize, usize) =
         (fields.next()?.parse().ok()?, fields.next()?.parse().ok()?);
-    let (_, answer, _) = FUNCTIONS.into_iter().find(|function| function.0 == word)?;
+    let answer = match word {
+        "events" => fenomirask::events,
+        "check" => fenomirask::check,
+        "bundle" => fenomirask::bundle,
+        _ => return None,
+    };
     let data = &data[end + 1..];
     let (sheet, text) = (
         data.get(..sheet_bytes)?,
@@ -714,10 +925,10 @@ fn first_sheet(data: &[u8]) -> Option<(Sheet<'_>, &[u8])> {
     );
     Some((
         Sheet {
+            word,
             answer,
-            is_of_events: word == "events",
             sheet,
-            wanted: wanted(text)?,
+            wanted: wanted(word, text)?,
         },
         &data[sheet_bytes + text_bytes..],
     ))
@@ -737,11 +948,12 @@ fn sheets_of<'a>(path: &str, data: &'a [u8]) -> Vec<Sheet<'a>> {
 }
 
 fn run_sheets(sheets: &[Sheet], counts: &mut Counts) {
+    let mut last: &[u8] = b"";
     for (
         at,
         &Sheet {
+            word,
             answer,
-            is_of_events,
             sheet,
             wanted,
         },
@@ -755,7 +967,14 @@ fn run_sheets(sheets: &[Sheet], counts: &mut Counts) {
         if wanted == Err(NO_ROOM) {
             counts.expect_longer(&what, answer, sheet);
         }
-        if is_of_events && sheet.len() <= SHEET_BYTES {
+        if word == "bundle" && (wanted.is_ok() || wanted == Err(NO_ROOM)) {
+            counts.expect_clauses(&what, sheet);
+        }
+        if word == "events" {
+            counts.expect_as_clauses(&what, sheet, last);
+            last = sheet;
+        }
+        if word == "events" && sheet.len() <= SHEET_BYTES {
             let (got, kept) = by_lines(sheet);
             let same = match &got {
                 Ok(text) if text.len() > ROOM => wanted == Err(NO_ROOM),
@@ -800,6 +1019,9 @@ fn main() {
     spoilt_states(&mut counts, &clause);
     single_lines(&mut counts);
     long_lines(&mut counts);
+    bundle_lines(&mut counts);
+    long_bundles(&mut counts);
+    long_bundle_answers(&mut counts);
     for path in std::env::args().skip(1) {
         let data = std::fs::read(&path).unwrap_or_else(|error| {
             println!("{path}: {error}");

@@ -2,7 +2,7 @@
  *
  * Fenomirask chooses the registers for Prolog clauses, and checks that compiled instructions put each variable where it
  * belongs. What a sheet is, and what each answer means, is in document 01, "Registers for Prolog clauses, and the check
- * sheet".
+ * sheet"; what a bundle is, in document 02, c.
  *
  * Every function takes parts of memory that the host lends for the time of the call, each as a pointer and a count of
  * bytes. The host sees to it that
@@ -31,8 +31,8 @@ extern "C" {
  *
  * An answer that is not negative is the count of bytes written to the start of `out`; the bytes past them are as they
  * were. A negative answer is a refusal, -(16 * line + refusal), and every byte of `out` is as it was. Lines count from
- * 1; line 0 stands for the whole sheet. The first bad line decides, and in a line the order of document 01. A call with
- * one line counts it as line 1; there line 0 stands for the state, the length or the room.
+ * 1; line 0 stands for the whole sheet or bundle. In a sheet the first bad line decides, and in a line the order of
+ * document 01. A call with one line counts it as line 1; there line 0 stands for the state, the length or the room.
  */
 
 /* Whether an answer is a refusal. */
@@ -70,18 +70,19 @@ enum FenomiraskRefusal {
 /* ---- Sizes */
 
 enum {
-    /* A sheet that is longer is refused, FENOMIRASK_FULL on line 0. */
+    /* A sheet or bundle that is longer is refused, FENOMIRASK_FULL on line 0. */
     FENOMIRASK_SHEET_BYTES = 65536,
     /* The answer to a check sheet, `accepted` or `rejected` and an LF. */
     FENOMIRASK_CHECK_ROOM = 9,
     /* No event prints more, nor does fenomirask_end. */
     FENOMIRASK_EVENT_ROOM = 256,
-    /* A thread with so much stack may call. fenomirask_events takes about 340 KB of it, for a short sheet too,
-     * fenomirask_check about 70, and fenomirask_event as much as fenomirask_events; a thread that may call it may call
-     * fenomirask_fresh and fenomirask_end. Look at what your threads have: with musl a thread has 128 KiB unless it asks
-     * for more (pthread_attr_setstacksize), which is enough for fenomirask_check alone. */
+    /* A thread with so much stack may call. fenomirask_events takes about 350 KB of it, for a short sheet too,
+     * fenomirask_check about 70, fenomirask_bundle about 360, and fenomirask_event as much as fenomirask_events; a thread
+     * that may call it may call fenomirask_fresh and fenomirask_end. Look at what your threads have: with musl a thread
+     * has 128 KiB unless it asks for more (pthread_attr_setstacksize), which is enough for fenomirask_check alone. */
     FENOMIRASK_EVENTS_STACK = 393216,
     FENOMIRASK_CHECK_STACK = 98304,
+    FENOMIRASK_BUNDLE_STACK = 393216,
     FENOMIRASK_EVENT_STACK = 393216,
 
     /* Variables of a clause, numbered from 0. */
@@ -107,6 +108,18 @@ int64_t fenomirask_events(const uint8_t *sheet, size_t sheet_bytes, uint8_t *out
 
 /* The answer to a check sheet: `accepted` or `rejected`, and an LF. */
 int64_t fenomirask_check(const uint8_t *sheet, size_t sheet_bytes, uint8_t *out, size_t out_bytes);
+
+/* The answer to a bundle, in which a line `clause` begins each clause: for each in turn the answer of fenomirask_events to
+ * its lines alone, the line behind `clause` being line 1. A clause that is refused is answered with one line in place of
+ * that, `no`, the line and the refusal's number, parted by tabs, and the next one goes on. An empty bundle is answered with
+ * no byte, which is 0; a clause without lines with `end`.
+ *
+ * A bundle is refused as a whole or not at all, on line 0: in this order FENOMIRASK_FULL, where it has more bytes than
+ * FENOMIRASK_SHEET_BYTES; FENOMIRASK_UNKNOWN_FORM, where its last byte is no LF; FENOMIRASK_FORBIDDEN_ORDER, where a line
+ * stands before the first whose word is `clause`; FENOMIRASK_UNKNOWN_FORM, where a `clause` line has more fields; and
+ * FENOMIRASK_NO_ROOM, where the answers of all clauses together are longer than the lent part. Of a clause that is refused
+ * only its `no` line counts there. */
+int64_t fenomirask_bundle(const uint8_t *sheet, size_t sheet_bytes, uint8_t *out, size_t out_bytes);
 
 /* ---- The state of a clause
  *

@@ -1,7 +1,7 @@
 """The sheets that tests/speed measures, the same ones in each run. In lines, blanks stand for tabs."""
 import itertools
 
-from replaying import ORACLE, SHEET_BYTES, frames, judged_events, output
+from replaying import CLAUSE, ORACLE, SHEET_BYTES, bundle_of, frames, judged_events, output
 
 SMALL = 2_000  # small sheets
 SMALL_LINES = range(10, 41)
@@ -16,6 +16,9 @@ INSTRUCTIONS = 4  # of a step
 REGISTERS = 63
 DEAR = 100  # lines of the dearest event: the Rust takes seconds for a full sheet of them
 RECORDS = ("temp", "perm")
+PRINTING = 29_000  # bytes of a clause of `anon` that prints more than 65,536
+UNKNOWN = b"\n"  # a line that is refused
+NO_LINES_END = b"end\t1\t0\n"  # the answer to a clause without lines
 
 
 def text(lines):
@@ -88,6 +91,25 @@ def mixed(sheets):
             return kept
         if not judged_events([longer])[0].startswith(b"no\t"):
             kept = longer
+
+
+# ---- Bundles
+
+
+def fitting(sheets):
+    """As many of the sheets as a bundle has place for."""
+    ends = itertools.accumulate(len(bundle_of([sheet])) for sheet in sheets)
+    return sheets[: sum(end <= SHEET_BYTES for end in ends)]
+
+
+def empty_clauses():
+    """As many clauses without lines as a bundle's answer has place for."""
+    return [b""] * (SHEET_BYTES // len(NO_LINES_END))
+
+
+def clause_part(sheet, size=SHEET_BYTES):
+    """The lines of a sheet that have their place in so many bytes of a bundle, as one clause."""
+    return shorter(sheet, size - len(CLAUSE + b"\n"))
 
 
 # ---- Each word
@@ -243,4 +265,19 @@ def dear_checks():
         "equalities, a variable each": steps("h {k} {k}", ["get_value x{after} {k}", *values]),
         "moves": steps("h {k} 0", ["get_variable y{after} {k}"] * INSTRUCTIONS),
         "deep subterms": steps("hd {k}", ["unify_variable y{k}", *values]),
+    }
+
+
+def dear_bundles(sheets):
+    """Full bundles of clauses, by name: those above, and some with clauses of the dearest event."""
+    dear, printing = dear_events()["sets, one chunk"], marks()["anon"]
+    long, half = clause_part(printing, PRINTING), SHEET_BYTES // 2
+    return {
+        "clauses of 10 to 40 lines": fitting(small(sheets)),
+        "empty clauses": empty_clauses(),
+        "anon, one clause": [clause_part(printing)],
+        "sets, one clause": [clause_part(dear)],
+        "sets, two clauses": [clause_part(dear, half)] * 2,
+        "sets, refused at its end": [clause_part(dear, SHEET_BYTES - len(UNKNOWN)) + UNKNOWN],
+        "sets, in an answer longer than 65,536 bytes": [long, clause_part(dear, SHEET_BYTES - PRINTING)],
     }

@@ -8,9 +8,10 @@ programs it is, where it is one; then either `must-fail:` and the edit of the me
 lines as they stand in the code.
 
 On what the wrong answer shows is said by one of these: `sheet:`, one of document 01, as `6` or `10.3` for the third of its
-rows in the table of known_sheets; `event:`, `bundle:` or `check:`, a sheet and behind `=>` its answer, with a space between fields,
-` / ` between lines and `*N` behind a line that stands N times; `state:`, the lines of an event sheet and behind `=>` a part
-of the state after them and its number; `main:`, the body of a program that shows a number, and `prints:`, the number.
+rows in the table of known_sheets; `event:`, `bundle:` or `check:`, a sheet and behind `=>` its answer, with a space between
+fields, ` / ` between lines and `*N` behind a line that stands N times; `state:`, the lines of an event sheet and behind
+`=>` a part of the state after them and its number; `main:`, the body of a program that shows a number, and `prints:`, the
+number.
 
 An edit of a definition or of a theorem cannot be run. tests/wrong_laws has an entry for each: `edit:` and its name,
 `false of:` and an instance of which the edited text is false, and where a sheet shows it the sheet, as above.

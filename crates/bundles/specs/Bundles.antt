@@ -1,7 +1,7 @@
 -- The whole answer to a bundle, for every list of bytes and every room. A line `clause` begins each clause, and each is answered
 -- as an event sheet of its lines alone, in order.
 use Prim.Native.Nat.{ℕ, _-_}
-use mathlib.Core.Bool.{Bool, true, false, not, _&&_, _||_}
+use mathlib.Core.Bool.{Bool, false, not, _&&_, _||_}
 use mathlib.Core.List.{List, [], _∷_, _++_}
 use lib.Dec.{eqb, ltb}
 use lib.ListN.{length, getD, take}
@@ -67,9 +67,12 @@ unfoldable pub isStray : List (List ℕ) → Bool
 isStray lines = ltb 0 (length (untilClause lines))
 
 -- a `clause` line has more fields
+unfoldable pub isMore : List ℕ → Bool
+isMore line = isClause line && not (same line clauseWord)
+
 unfoldable pub hasMore : List (List ℕ) → Bool
 hasMore [] = false
-hasMore (line ∷ lines) = (isClause line && not (same line clauseWord)) || hasMore lines
+hasMore (line ∷ lines) = isMore line || hasMore lines
 
 abbrev pub allRan : List ℕ → Ran
 allRan text = record { text = text; line = 0; refusal = accepted }

@@ -13,7 +13,7 @@ use Rattle.split.specs.Split.{lineFeed, before, after, split, inFront}
 use Rattle.split.specs.SplitLaws.{split-more, split-last, split-some}
 use Rattle.split.specs.SplitTrips.{free, allFree, allFree-split}
 use Rattle.words.specs.Words.{same}
-use Rattle.bundles.specs.Bundles.{linesOf, isClause, untilClause, clauses, sheetOf, isUnended, isStray, hasMore, clauseWord}
+use Rattle.bundles.specs.Bundles.{linesOf, isClause, untilClause, clauses, sheetOf, isUnended, isStray, isMore, hasMore, clauseWord}
 
 -- ---- All parts but the last
 
@@ -187,7 +187,7 @@ clauses-from (line ∷ lines) =
     refl
 
 pub more-from : (lines : List (List ℕ)) → hasMore (fromClause lines) ≡ hasMore lines
-unfolding fromClause hasMore
+unfolding fromClause hasMore isMore
 more-from [] = refl
 more-from (line ∷ lines) =
     elim (isClause line) as

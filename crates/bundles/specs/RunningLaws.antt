@@ -40,11 +40,12 @@ use Rattle.bundles.specs.Bundles.{
   clauseTexts,
   isUnended,
   isStray,
+  isMore,
   hasMore,
   allRan,
   bundleRan,
 }
-use Rattle.bundles.specs.LinesLaws.{lines-more, lines-last, whole-lines, lines-free, lines-sheet, before-line, after-line, sheet-append, fromClause, until-from, free-until, free-from, clauses-from, more-from, stray-from, stray-none}
+use Rattle.bundles.specs.LinesLaws.{lines-more, lines-last, whole-lines, lines-free, lines-sheet, before-line, after-line, sheet-append, fromClause, until-from, free-from, clauses-from, more-from, stray-from, stray-none}
 use Rattle.bundles.specs.Running.{refusalBefore, clausesRan, Fronts, Seeking, Going}
 use Rattle.bundles.specs.FrontLaws.{fronts-printed, fronts-over, fronts-then}
 
@@ -105,7 +106,7 @@ ended-found bundle ended some =
     refl
 
 -- whether the first line is a clause's
-stray-first : (line : List ℕ) (lines : List (List ℕ)) → isStray (line ∷ lines) ≡ not (isClause line)
+pub stray-first : (line : List ℕ) (lines : List (List ℕ)) → isStray (line ∷ lines) ≡ not (isClause line)
 unfolding isStray untilClause
 stray-first line lines =
     elim (isClause line) as (λ t. ltb 0 (length (if t then [] else line ∷ untilClause lines)) ≡ not t)
@@ -238,7 +239,7 @@ module _ {rest left : List ℕ} {bytes end : ℕ} (k : Seeking rest left bytes e
 
 -- ---- What a clause prints
 
--- the line of a refusal has at most so many bytes
+-- the line of a refusal has at most so many bytes: as many as the code keeps for it
 abbrev pub refusalBytes : ℕ
 refusalBytes = 32
 
@@ -334,14 +335,14 @@ module _ (line : List ℕ) (lines : List (List ℕ)) (e : isClause line ≡ true
   clauses-clause = simp e
 
   more-here : same line clauseWord ≡ false → hasMore (line ∷ lines) ≡ true
-  unfolding hasMore
+  unfolding hasMore isMore
   more-here other = simp (e, other)
 
   more-later : same line clauseWord ≡ true → hasMore (line ∷ lines) ≡ hasMore lines
-  unfolding hasMore
+  unfolding hasMore isMore
   more-later only = simp (e, only)
 
-texts-first : (lines : List (List ℕ)) (others : List (List (List ℕ))) → clauseTexts (lines ∷ others) ≡ clauseText lines ++ clauseTexts others
+pub texts-first : (lines : List (List ℕ)) (others : List (List (List ℕ))) → clauseTexts (lines ∷ others) ≡ clauseText lines ++ clauseTexts others
 unfolding clauseTexts
 texts-first lines others = refl
 

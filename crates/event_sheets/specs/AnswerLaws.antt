@@ -22,7 +22,7 @@ use Rattle.event_sheets.specs.EventSheets.{Ran, refusedAt, sheetRan, ans
 use Rattle.event_sheets.specs.Running.{wholeRan, told}
 
 -- a text for which there is room, and what lies past it
-pub printed-whole : (out text : List ℕ) → length text ≤ length out → printed out 0 text ≡ text ++ drop (length text) out
+printed-whole : (out text : List ℕ) → length text ≤ length out → printed out 0 text ≡ text ++ drop (length text) out
 unfolding printed
 printed-whole out text h =
     rw zero-add

@@ -13,7 +13,7 @@ use Rattle.sizes.specs.Sizes.{sheetBytes}
 use Rattle.split.specs.Split.{lineFeed, before, after, split}
 use Rattle.split.specs.SplitLaws.{split-more, split-some, split-last, take-before, drop-before, after-length}
 use Rattle.printing.specs.Printing.{printed, placeAfter, Put}
-use Rattle.printing.specs.PrintingLaws.{put-then, put-length, printed-length}
+use Rattle.printing.specs.PrintingLaws.{put-then, put-length}
 use Rattle.allocator_state.specs.declared.Counters.{Counters}
 use Rattle.events.specs.declared.Event.{Event}
 use Rattle.event_lines.specs.declared.Line.{Line}

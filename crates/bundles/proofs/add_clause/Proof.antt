@@ -1,5 +1,4 @@
 -- `bundles::add_clause`: the text that its lines print, or over it the line of its refusal. Assumes nothing.
-use native.Mathlib.Omega.{arith}
 use borrow.Author.Needs.{needs}
 use Rattle.bundles.specs.RunningLaws.{line-small, clause-refused, clause-printed}
 use Rattle.bundles.proofs.add_clause.Statement.{statement}

@@ -1,5 +1,4 @@
 -- `bundles::add_refusal`: the line is put into the scratch, counted there, and copied on. Assumes nothing.
-use native.Mathlib.Omega.{arith}
 use borrow.Author.Needs.{needs}
 use Rattle.answers.specs.AnswersLaws.{added}
 use Rattle.bundles.specs.RunningLaws.{refusal-short}
