@@ -903,6 +903,7 @@ static size_t clause_end(const uint8_t *bundle, size_t bundle_bytes, size_t at)
 static size_t put_clause_text(const uint8_t *lines, size_t bytes, uint8_t *text)
 {
     int64_t got = fenomirask_events(lines, bytes, text, LARGE_ROOM);
+    count(!FENOMIRASK_REFUSED(got) || FENOMIRASK_LINE(got) > 0, "a clause is refused at a line", "events", LARGE_ROOM, got, 0);
     return FENOMIRASK_REFUSED(got)
                ? (size_t)sprintf((char *)text, "no\t%zu\t%d\n", FENOMIRASK_LINE(got), FENOMIRASK_REFUSAL(got))
                : (size_t)got;
@@ -918,6 +919,7 @@ static void expect_clauses(const char *what, const uint8_t *bundle, size_t bundl
         at = clause_end(bundle, bundle_bytes, from);
         bytes += put_clause_text(bundle + from, at - from, text + bytes);
     }
+    count(at == bundle_bytes, what, "all clauses", LARGE_ROOM, (int64_t)at, (int64_t)bundle_bytes);
     expect_text(what, &functions[BUNDLE], bundle, bundle_bytes, bytes + FENOMIRASK_EVENT_ROOM, text, bytes);
     if (bytes > ROOM)
         expect(what, &functions[BUNDLE], bundle, bundle_bytes, ROOM, -FENOMIRASK_NO_ROOM, "");

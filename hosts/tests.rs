@@ -702,6 +702,7 @@ fn clause_text(lines: &[u8]) -> Vec<u8> {
     match fenomirask::events(lines, &mut out) {
         Ok(written) => out[..written].to_vec(),
         Err(Refused { line, refusal }) => {
+            assert!(line > 0, "a clause is refused at a line");
             format!("no\t{line}\t{}\n", refusal as usize).into_bytes()
         }
     }

@@ -16,6 +16,7 @@ use Rattle.split.specs.Split.{lineFeed}
 use Rattle.split.specs.SplitTrips.{allFree}
 use Rattle.answered.specs.declared.Answered.the-variants.{Written, Refused}
 use Rattle.bundles.specs.Bundles.{clauseWord, sheetOf, clauseText, clauseTexts, answered, filled}
+use Rattle.bundles.specs.RunningLaws.{texts-first}
 use Rattle.bundle_exactly.specs.Exactly.{
   Body,
   noClause,
@@ -81,10 +82,6 @@ texts-append (body ∷ bodies) b =
     ap (λ (l : List ℕ). clauseText body ++ l) (texts-append bodies b)
     ∙ sym (append-assoc (clauseText body) (clauseTexts bodies) (clauseTexts b))
 
-texts-first : (body : Body) (bodies : List Body) → clauseTexts (body ∷ bodies) ≡ clauseText body ++ clauseTexts bodies
-unfolding clauseTexts
-texts-first body bodies = refl
-
 middle : (front own behind rest : List ℕ) → take (length own) (drop (length front) ((front ++ (own ++ behind)) ++ rest)) ≡ own
 middle front own behind rest =
     ap (λ (l : List ℕ). take (length own) (drop (length front) l)) (append-assoc front (own ++ behind) rest)
@@ -93,20 +90,20 @@ middle front own behind rest =
 
 module _ (before : List Body) (body : Body) (behind : List Body) where
   -- a body among others
-  abbrev pub bodies : List Body
-  bodies = before ++ (body ∷ behind)
+  abbrev pub among : List Body
+  among = before ++ (body ∷ behind)
 
-  own-texts : clauseTexts bodies ≡ clauseTexts before ++ (clauseText body ++ clauseTexts behind)
+  own-texts : clauseTexts among ≡ clauseTexts before ++ (clauseText body ++ clauseTexts behind)
   own-texts = texts-append before (body ∷ behind) ∙ ap (λ (l : List ℕ). clauseTexts before ++ l) (texts-first body behind)
 
-  module _ (all : areBodies bodies ≡ true) (out : List ℕ) (fits : Fits bodies (length out)) where
+  module _ (all : areBodies among ≡ true) (out : List ℕ) (fits : Fits among (length out)) where
     -- what is printed for a clause stands between what is printed for those before and behind it
-    pub own-lines : AnsweredWith (bundleOf bodies) out (clauseTexts before ++ (clauseText body ++ clauseTexts behind))
-    own-lines = subst (AnsweredWith (bundleOf bodies) out) own-texts (bodies-texts bodies all out fits)
+    pub own-lines : AnsweredWith (bundleOf among) out (clauseTexts before ++ (clauseText body ++ clauseTexts behind))
+    own-lines = subst (AnsweredWith (bundleOf among) out) own-texts (bodies-texts among all out fits)
 
     -- and depends on its own lines only
     pub own-part :
-        take (length (clauseText body)) (drop (length (clauseTexts before)) (filled (bundleOf bodies) out)) ≡ clauseText body
+        take (length (clauseText body)) (drop (length (clauseTexts before)) (filled (bundleOf among) out)) ≡ clauseText body
     own-part =
         ap (λ (l : List ℕ). take (length (clauseText body)) (drop (length (clauseTexts before)) l)) (own-lines .bytes)
         ∙ middle (clauseTexts before) (clauseText body) (clauseTexts behind) _

@@ -1,11 +1,10 @@
 -- Bundles at the edges: the empty one, and as many clauses as fit.
-use Prim.Native.Nat.{ℕ, zero, suc, _*_, _≤_, _<_, zero-le}
+use Prim.Native.Nat.{ℕ, zero, suc, _*_, _≤_, _<_}
 use mathlib.Core.Path.{_≡_, refl, ap, ap₂, subst, _∙_}
 use mathlib.Core.Bool.{true}
 use mathlib.Core.List.{List, [], _++_}
 use native.Mathlib.Omega.{arith}
 use lib.ListN.{length}
-use borrow.Author.Tests.{le-ltb}
 use Rattle.notation.specs.Text.{bytes}
 use Rattle.refusals.specs.Refusals.{refusedRoom}
 use Rattle.sizes.specs.Sizes.{sheetBytes}
@@ -14,29 +13,16 @@ use Rattle.split.specs.SplitTrips.{allFree}
 use Rattle.numbers.specs.Numbers.{written, decimal}
 use Rattle.instructions.specs.Instructions.{line}
 use Rattle.answers.specs.Answers.{endText}
-use Rattle.answered.specs.declared.Answered.the-variants.{Written, Refused}
-use Rattle.event_sheets.specs.EventSheets.{maxRegAllocated, lastRan, ran, sheetRan, answeredBy}
-use Rattle.bundles.specs.Bundles.{
-  linesOf,
-  untilClause,
-  clauses,
-  sheetOf,
-  ranText,
-  clauseText,
-  clauseTexts,
-  isUnended,
-  isStray,
-  hasMore,
-  bundleRan,
-  answered,
-}
+use Rattle.answered.specs.declared.Answered.the-variants.{Refused}
+use Rattle.event_sheets.specs.EventSheets.{maxRegAllocated, lastRan, ran, sheetRan}
+use Rattle.bundles.specs.Bundles.{sheetOf, ranText, clauseText, clauseTexts, answered}
 use Rattle.bundle_exactly.specs.Exactly.{noClause, areBodies, bundleOf, Fits, AnsweredWith, empties, emptyTexts}
 use Rattle.bundle_exactly.specs.AloneLaws.{bodies-texts, bodies-roomless}
 
 -- the empty bundle prints nothing
-pub empty-answered : (room : ℕ) → answered [] room ≡ Written 0
-unfolding answered bundleRan answeredBy linesOf split isUnended isStray untilClause hasMore clauses clauseTexts
-empty-answered room = simp (le-ltb room 0 zero-le)
+pub empty-answered : (out : List ℕ) → AnsweredWith [] out []
+unfolding areBodies bundleOf clauseTexts
+empty-answered out = bodies-texts [] refl out (record { bundle-fits = omega arith; text-fits = omega arith })
 
 -- a clause with no line prints `end 1 0`
 pub empty-text : clauseText [] ≡ bytes "end\t1\t0\n"
@@ -60,30 +46,30 @@ unfolding clauseTexts emptyTexts
 empties-texts zero = refl
 empties-texts (suc n) = ap₂ (λ (a b : List ℕ). a ++ b) empty-text (empties-texts n)
 
-pub texts-length : (n : ℕ) → length (emptyTexts n) ≡ 8 * n
+pub empty-texts-length : (n : ℕ) → length (emptyTexts n) ≡ 8 * n
 unfolding emptyTexts
-texts-length zero = refl
-texts-length (suc n) = omega (arith, texts-length n)
+empty-texts-length zero = refl
+empty-texts-length (suc n) = omega (arith, empty-texts-length n)
+
+empties-texts-length : (n : ℕ) → length (clauseTexts (empties n)) ≡ 8 * n
+empties-texts-length n = ap length (empties-texts n) ∙ empty-texts-length n
 
 module _ (n : ℕ) (short : 7 * n ≤ sheetBytes) where
-  clauses-length : length (clauseTexts (empties n)) ≡ 8 * n
-  clauses-length = ap length (empties-texts n) ∙ texts-length n
-
   pub empties-written : (out : List ℕ) → 8 * n ≤ length out → AnsweredWith (bundleOf (empties n)) out (emptyTexts n)
   empties-written out room =
       let fits : Fits (empties n) (length out) =
-      record { bundle-fits = omega (arith, empties-length n); text-fits = omega (arith, clauses-length) }
+      record { bundle-fits = omega (arith, empties-length n); text-fits = omega (arith, empties-texts-length n) }
       in
       subst (AnsweredWith (bundleOf (empties n)) out) (empties-texts n) (bodies-texts (empties n) (empties-bodies n) out fits)
 
   pub empties-roomless : (room : ℕ) → room < 8 * n → answered (bundleOf (empties n)) room ≡ Refused 0 refusedRoom
   empties-roomless room small =
-      bodies-roomless (empties n) (empties-bodies n) room (omega (arith, empties-length n)) (omega (arith, clauses-length))
+      bodies-roomless (empties n) (empties-bodies n) room (omega (arith, empties-length n)) (omega (arith, empties-texts-length n))
 
--- 8,192 of them fill 65,536 bytes, and one more does not fit
+-- 8,192 of them print 65,536 bytes, and one more does not fit
 pub most-empties :
-    (out : List ℕ) → length out ≡ sheetBytes → answered (bundleOf (empties 8_192)) (length out) ≡ Written sheetBytes
-most-empties out room = empties-written 8_192 (omega arith) out (omega arith) .count ∙ ap Written (texts-length 8_192)
+    (out : List ℕ) → length out ≡ sheetBytes → AnsweredWith (bundleOf (empties 8_192)) out (emptyTexts 8_192)
+most-empties out room = empties-written 8_192 (omega arith) out (omega arith)
 
 pub one-empty-more : answered (bundleOf (empties 8_193)) sheetBytes ≡ Refused 0 refusedRoom
 one-empty-more = empties-roomless 8_193 (omega arith) sheetBytes (omega arith)

@@ -124,6 +124,23 @@ around front x between y behind = front ++ (x ++ (between ++ (y ++ behind)))
 abbrev pub NoAtZero : List ℕ → Type 0
 NoAtZero line = (fields : List (List ℕ)) × (split tab line ≡ bytes "no" ∷ (bytes "0" ∷ fields))
 
+-- a line that ends an answer: its word is `end` or `no`
+abbrev pub EndsAnswer : List ℕ → Type 0
+EndsAnswer line = (before tab line ≡ bytes "end") ⊎ (before tab line ≡ bytes "no")
+
+-- something is so of each line
+abbrev pub Each : (List ℕ → Type 0) → List (List ℕ) → Type 0
+Each So [] = Unit {0}
+Each So (line ∷ lines) = So line × Each So lines
+
+-- the last line of a text ends an answer, and no line before it does
+pub record EndsOnce (text : List ℕ) : Type 0 where
+  pub front : List (List ℕ)
+  pub last : List ℕ
+  pub parted : linesOf text ≡ front ++ (last ∷ [])
+  pub goes-on : Each (λ line. ¬ EndsAnswer line) front
+  pub ends : EndsAnswer last
+
 -- so many clauses with no line
 abbrev pub empties : ℕ → List Body
 empties n = replicate n []

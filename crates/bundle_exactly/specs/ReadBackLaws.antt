@@ -14,7 +14,7 @@ use Rattle.split.specs.Split.{lineFeed, before}
 use Rattle.split.specs.SplitTrips.{free, allFree}
 use Rattle.words.specs.Words.{same}
 use Rattle.words.specs.WordsLaws.{same-exactly}
-use Rattle.bundles.specs.Bundles.{linesOf, clauseWord, isClause, untilClause, clauses, sheetOf, isUnended, isStray, hasMore}
+use Rattle.bundles.specs.Bundles.{linesOf, clauseWord, isClause, untilClause, clauses, sheetOf, isUnended, isStray, isMore, hasMore}
 use Rattle.bundles.specs.LinesLaws.{
   whole-lines,
   lines-free,
@@ -118,7 +118,7 @@ clauses-own (line ∷ lines) rest h =
     simp (b .0) (clauses-own lines rest (b .1))
 
 more-own : (body rest : Body) → noClause body ≡ true → hasMore (body ++ rest) ≡ hasMore rest
-unfolding hasMore
+unfolding isMore hasMore
 more-own [] rest h = refl
 more-own (line ∷ lines) rest h =
     let b = no-clause line lines h in
@@ -128,9 +128,9 @@ clauses-first : (lines : List (List ℕ)) → clauses (clauseWord ∷ lines) ≡
 unfolding clauses
 clauses-first lines = simp is-clause
 
-more-first : (lines : List (List ℕ)) → hasMore (clauseWord ∷ lines) ≡ hasMore lines
-unfolding hasMore same
-more-first lines = simp is-clause
+more-behind-clause : (lines : List (List ℕ)) → hasMore (clauseWord ∷ lines) ≡ hasMore lines
+unfolding isMore hasMore same
+more-behind-clause lines = simp is-clause
 
 clauses-lines : (bodies : List Body) → areBodies bodies ≡ true → clauses (bundleLines bodies) ≡ bodies
 unfolding bundleLines clauses
@@ -147,7 +147,7 @@ unfolding bundleLines hasMore
 more-lines [] h = refl
 more-lines (body ∷ bodies) h =
     let b = bodies-known body bodies h in
-    more-first (body ++ bundleLines bodies) ∙ more-own body (bundleLines bodies) (b .own) ∙ more-lines bodies (b .others)
+    more-behind-clause (body ++ bundleLines bodies) ∙ more-own body (bundleLines bodies) (b .own) ∙ more-lines bodies (b .others)
 
 -- ---- Lines that are those of a bundle
 
@@ -157,14 +157,14 @@ neither false b h = (refl, h)
 
 module _ (line : List ℕ) (lines : List (List ℕ)) where
   more-clause : isClause line ≡ true → hasMore (line ∷ lines) ≡ false → (line ≡ clauseWord) × (hasMore lines ≡ false)
-  unfolding hasMore
+  unfolding isMore hasMore
   more-clause e h =
-      let n = neither (isClause line && not (same line clauseWord)) (hasMore lines) h in
+      let n = neither (isMore line) (hasMore lines) h in
       let alike : not (same line clauseWord) ≡ false = rw e at (n .0) in
       (same-exactly line clauseWord .0 (not-false (same line clauseWord) alike), n .1)
 
   more-other : isClause line ≡ false → hasMore (line ∷ lines) ≡ hasMore lines
-  unfolding hasMore
+  unfolding isMore hasMore
   more-other e = simp e
 
 -- the bodies that are read are those of the lines from the first `clause` on

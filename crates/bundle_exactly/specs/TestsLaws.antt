@@ -1,21 +1,21 @@
 -- The tests by which the answer goes hold exactly of what a bundle is refused for.
 use Prim.Native.Nat.{ℕ, suc, _-_, _<_}
 use mathlib.Core.Path.{_≡_, refl, ap, ap₂, sym, _∙_}
-use mathlib.Core.Bool.{Bool, true, false, not, _&&_, _||_, true≢false, false≢true}
+use mathlib.Core.Bool.{Bool, true, false, not, _||_, true≢false, false≢true}
 use mathlib.Core.Logic.{_↔_, _≢_}
 use mathlib.Core.List.{List, [], _∷_, _++_, nil≢cons}
 use native.Mathlib.Omega.{arith}
 use lib.Dec.{ltb}
 use lib.ListN.{length, getD, take, drop, length-append}
 use lib.Seq.{take-suc, take-all, getD-at}
-use borrow.Author.Tests.{eqb-false, ne-eqb, not-true, ltb-true, ltb-false, lt-ltb}
-use Rattle.notation.specs.Choice.{if_then_else_}
+use borrow.Author.Tests.{eqb-false, ne-eqb, not-true, ltb-true, ltb-false}
 use Rattle.notation.specs.ChoiceLaws.{both-true}
 use Rattle.split.specs.Split.{tab, lineFeed, before, after, split, inFront}
 use Rattle.split.specs.SplitLaws.{take-before, split-more, split-some}
 use Rattle.words.specs.Words.{same}
 use Rattle.words.specs.WordsLaws.{same-exactly}
-use Rattle.bundles.specs.Bundles.{clauseWord, isClause, untilClause, isUnended, isStray, hasMore}
+use Rattle.bundles.specs.Bundles.{clauseWord, isClause, untilClause, isUnended, isStray, isMore, hasMore}
+use Rattle.bundles.specs.RunningLaws.{stray-first}
 use Rattle.bundle_exactly.specs.Exactly.{Unended, Stray, ClauseAndMore, MoreFields}
 
 -- a test that holds exactly of something fails exactly of what is not so
@@ -65,12 +65,6 @@ module _ (line : List ℕ) where
 
 -- ---- The first line
 
-stray-first : (line : List ℕ) (lines : List (List ℕ)) → isStray (line ∷ lines) ≡ not (isClause line)
-unfolding isStray untilClause
-stray-first line lines =
-    elim (isClause line) as (λ t. ltb 0 (length (if t then [] else line ∷ untilClause lines)) ≡ not t)
-    [ true ↦ refl | false ↦ lt-ltb 0 (suc (length (untilClause lines))) (omega arith) ]
-
 pub stray-exactly : (lines : List (List ℕ)) → (isStray lines ≡ true) ↔ Stray lines
 unfolding isStray untilClause
 stray-exactly [] = (λ h. absurd (false≢true h), λ told. absurd (nil≢cons (told .2)))
@@ -99,14 +93,12 @@ one-field : split tab clauseWord ≡ clauseWord ∷ []
 unfolding split inFront
 one-field = refl
 
-abbrev isMore : List ℕ → Bool
-isMore line = isClause line && not (same line clauseWord)
-
 module _ (line : List ℕ) where
   differ-exactly : (same line clauseWord ≡ false) ↔ (line ≢ clauseWord)
   differ-exactly = no-test (same line clauseWord) (same-exactly line clauseWord)
 
   more-fields : isMore line ≡ true → ClauseAndMore line
+  unfolding isMore
   more-fields h =
       let b = both-true (isClause line) (not (same line clauseWord)) h in
       let word = clause-exactly line .0 (b .0) in
@@ -119,6 +111,7 @@ module _ (line : List ℕ) where
       )
 
   fields-more : ClauseAndMore line → isMore line ≡ true
+  unfolding isMore
   fields-more told =
       let word : before tab line ≡ clauseWord = cc (split-some tab line, told .2) in
       let differ : line ≢ clauseWord = λ e. omega (arith, ap length (sym one-field ∙ ap (split tab) (sym e) ∙ told .2)) in
