@@ -14,7 +14,7 @@ use Rattle.check_lines.specs.declared.Line.{Line}
 use Rattle.check_lines.specs.Codes.{wordCode, noField, deepStep, argumentStep, argumentInstruction, placeInstruction}
 use Rattle.check_lines.specs.CheckLines.{fieldOf, saidBy, fieldsSay, lineSays}
 use Rattle.classes.specs.Classes.{pairsOf, bothNames, labelOf, exchanged, joined, labelsAfter, ownLabels, labelling, allSame}
-use Rattle.symbolic.specs.Symbolic.{pushed, listed, valueOf, again, claimed, carriedAll}
+use Rattle.symbolic.specs.Symbolic.{pushed, listed, spoiltUpTo, valueOf, again, claimed, carriedAll}
 use Rattle.verdict.specs.Verdict.{sameSubterms, decidedBy}
 use Rattle.check_sheets.specs.Running.{verdict}
 
@@ -30,5 +30,5 @@ lineRefusal earlier line = refusalOf earlier line
 
 -- the verdict on all lines
 unfoldable pub linesDecided : List CheckLine → Bool
-unfolding verdict judged judgedAs refusalBy misplacedUnder has inserted decidedBy sameSubterms carriedAll claimed again valueOf listed pushed pairsOf bothNames labelOf exchanged joined labelsAfter ownLabels labelling allSame numbersFrom
+unfolding verdict judged judgedAs refusalBy misplacedUnder has inserted decidedBy sameSubterms carriedAll claimed again valueOf spoiltUpTo listed pushed pairsOf bothNames labelOf exchanged joined labelsAfter ownLabels labelling allSame numbersFrom
 linesDecided lines = verdict lines

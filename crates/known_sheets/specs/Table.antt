@@ -1,5 +1,5 @@
--- The sheets with known ends that document 01 marks with P, in its order, and more check sheets behind them, on bytes in and
--- bytes out.
+-- The sheets with known ends that document 01 marks with P, and sheet 12 as document 02, b, has it, in their order, and more
+-- check sheets behind them, on bytes in and bytes out.
 use mathlib.Core.List.{List, [], _∷_}
 use Rattle.bit_set.specs.BitSet.{emptySet, inserted}
 use Rattle.known_sheets.specs.Known.{Known, eventSheet, checkSheet, noUseSets, conflictSets}
@@ -31,6 +31,9 @@ table =
     -- 11
     ∷ checkSheet "h\t1\t0\ng\t1\t1\nput_variable\tx4\t1\ng\t2\t0\nput_value\tx1\t2\ncall\n" "rejected\n"
     ∷ checkSheet "h\t1\t0\ng\t1\t1\nget_variable\tx3\t1\nput_variable\tx4\t1\ng\t2\t0\nput_value\tx3\t2\ncall\n" "accepted\n"
+    -- 12
+    ∷ checkSheet "g\t1\t0\nput_variable\tx5\t1\ncall\ng\t1\t0\nput_value\tx5\t1\ncall\n" "rejected\n"
+    ∷ checkSheet "g\t1\t0\nput_variable\ty1\t1\ncall\ng\t1\t0\nput_value\ty1\t1\ncall\n" "accepted\n"
     -- 13
     ∷ eventSheet "" "end\t1\t0\n"
     ∷ checkSheet "" "accepted\n"
@@ -49,4 +52,14 @@ table =
     -- a variable leaves x2 for x5, or for x1, where an argument is loaded already: docs/FOUND.md, A
     ∷ checkSheet "h\t2\t0\ng\t1\t1\nput_variable\tx3\t1\ng\t2\t2\nget_variable\tx5\t2\nput_variable\tx4\t2\ncall\n" "accepted\n"
     ∷ checkSheet "h\t2\t0\ng\t1\t1\nput_variable\tx3\t1\ng\t2\t2\nget_variable\tx1\t2\nput_variable\tx4\t2\ncall\n" "rejected\n"
+    -- an argument is read before its call spoils it; a call with no goal steps has spoilt it
+    ∷ checkSheet "h\t1\t0\ng\t1\t0\ncall\n" "accepted\n"
+    ∷ checkSheet "h\t1\t0\ncall\ng\t1\t0\ncall\n" "rejected\n"
+    -- an argument is kept across its call in its register, in another register, or in a slot across two calls
+    ∷ checkSheet "h\t1\t0\ng\t1\t0\ncall\ng\t1\t0\ncall\n" "rejected\n"
+    ∷ checkSheet "h\t1\t0\ng\t1\t0\nget_variable\tx5\t1\ncall\ng\t1\t0\nput_value\tx5\t1\ncall\n" "rejected\n"
+    ∷ checkSheet "h\t1\t0\ng\t1\t0\nget_variable\ty1\t1\ncall\ncall\ng\t1\t0\nput_value\ty1\t1\ncall\n" "accepted\n"
+    -- a variable first seen in the head is wanted after a call, from its slot, or from a slot that never held it
+    ∷ checkSheet "h\t1\t0\nget_variable\ty1\t1\ncall\ng\t1\t0\nput_value\ty1\t1\ncall\n" "accepted\n"
+    ∷ checkSheet "h\t1\t0\nget_variable\ty1\t1\ncall\ng\t1\t0\nput_value\ty2\t1\ncall\n" "rejected\n"
     ∷ []

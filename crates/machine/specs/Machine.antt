@@ -1,5 +1,6 @@
--- The machine of a check sheet: registers and slots that hold arbitrary numbers, and one further number for each step.
--- After Aït-Kaci, Warren's Abstract Machine: A Tutorial Reconstruction, and document 01, "Check sheet".
+-- The machine of a check sheet: registers and slots that hold arbitrary numbers, one further number for each step, and
+-- one that each call leaves in each register.
+-- After Aït-Kaci, Warren's Abstract Machine: A Tutorial Reconstruction, and documents 01, "Check sheet", and 02, b.
 use Prim.Native.Nat.{ℕ, suc}
 use mathlib.Core.Bool.{Bool, false}
 use mathlib.Core.List.{List, [], _∷_, _++_, map}
@@ -28,6 +29,11 @@ samePlace (Perm r) (Perm q) = eqb r q
 -- a number written to a place
 abbrev pub written : RegType → ℕ → Contents → Contents
 written place n contents other = if samePlace other place then n else contents other
+
+-- what `call` leaves: a number of its own in each register, and in each slot what it held
+abbrev pub spoilt : (ℕ → ℕ) → Contents → Contents
+spoilt left contents (Temp r) = left r
+spoilt left contents (Perm r) = contents (Perm r)
 
 -- ---- A run: what the places hold, the equalities demanded, the subterm list, what the calls read
 
@@ -76,12 +82,12 @@ module _ (m : Machine) where
         read = m .read;
       }
 
-  -- a step line: `g` k v makes k an argument of this goal
-  abbrev pub begins : List ℕ → List ℕ → Machine
-  begins goal read =
+  -- a step line: `g` k v makes k an argument of this goal, and `call` alters what the places hold
+  abbrev pub begins : Contents → List ℕ → List ℕ → Machine
+  begins contents goal read =
       record {
         steps = suc (m .steps);
-        contents = m .contents;
+        contents = contents;
         equalities = m .equalities;
         subterms = m .subterms;
         goal = goal;
@@ -110,26 +116,27 @@ does n m (SetLocalValue place) = adds m (m .contents place)
 does n m (UnifyValue place) = adds (demands m (m .contents place) n) n
 does n m (UnifyLocalValue place) = adds (demands m (m .contents place) n) n
 
--- what each step line does: `call` reads arguments and changes nothing
-abbrev pub stepped : Machine → Step → Machine
-stepped m (Head k v) = begins m (m .goal) (m .read)
-stepped m (HeadDeep v) = begins m (m .goal) (m .read)
-stepped m (Goal k v) = begins m (m .goal ++ k ∷ []) (m .read)
-stepped m (GoalDeep v) = begins m (m .goal) (m .read)
-stepped m Call = begins m [] (m .read ++ map (λ k. m .contents (Temp k)) (m .goal))
+-- what each step line does: `call` reads the arguments, then spoils the registers; a call goes by the number of its step line
+abbrev pub stepped : (ℕ → ℕ → ℕ) → Machine → Step → Machine
+stepped left m (Head k v) = begins m (m .contents) (m .goal) (m .read)
+stepped left m (HeadDeep v) = begins m (m .contents) (m .goal) (m .read)
+stepped left m (Goal k v) = begins m (m .contents) (m .goal ++ k ∷ []) (m .read)
+stepped left m (GoalDeep v) = begins m (m .contents) (m .goal) (m .read)
+stepped left m Call =
+    begins m (spoilt (left (suc (m .steps))) (m .contents)) [] (m .read ++ map (λ k. m .contents (Temp k)) (m .goal))
 
--- ---- The run of a sheet, for a choice of the entry contents and of each step's number
+-- ---- The run of a sheet, for a choice of the entry contents, of each step's number, and of what each call leaves in each register
 
-abbrev pub carried : (ℕ → ℕ) → Machine → CheckLine → Machine
-carried number m (Begins step) = stepped m step
-carried number m (Does instruction) = does (number (m .steps)) m instruction
+abbrev pub carried : (ℕ → ℕ) → (ℕ → ℕ → ℕ) → Machine → CheckLine → Machine
+carried number left m (Begins step) = stepped left m step
+carried number left m (Does instruction) = does (number (m .steps)) m instruction
 
-unfoldable pub runFrom : (ℕ → ℕ) → Machine → List CheckLine → Machine
-runFrom number m [] = m
-runFrom number m (line ∷ lines) = runFrom number (carried number m line) lines
+unfoldable pub runFrom : (ℕ → ℕ) → (ℕ → ℕ → ℕ) → Machine → List CheckLine → Machine
+runFrom number left m [] = m
+runFrom number left m (line ∷ lines) = runFrom number left (carried number left m line) lines
 
 abbrev pub atEntry : Contents → Machine
 atEntry entry = record { steps = 0; contents = entry; equalities = []; subterms = []; goal = []; read = [] }
 
-unfoldable pub run : Contents → (ℕ → ℕ) → List CheckLine → Machine
-run entry number lines = runFrom number (atEntry entry) lines
+unfoldable pub run : Contents → (ℕ → ℕ) → (ℕ → ℕ → ℕ) → List CheckLine → Machine
+run entry number left lines = runFrom number left (atEntry entry) lines

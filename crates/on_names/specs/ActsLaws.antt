@@ -1,7 +1,8 @@
 -- Laws of what the instructions do: under a choice the machine holds the values of the names that the run on names holds.
-use Prim.Native.Nat.{ℕ, suc, _+_, _*_, _≤_, _<_}
+use Prim.Native.Nat.{ℕ, zero, suc, _+_, _*_, _≤_, _<_}
 use mathlib.Core.Path.{_≡_, refl, sym, ap, _∙_}
-use mathlib.Core.Bool.{true, false, _&&_, false≢true}
+use mathlib.Core.Bool.{Bool, true, false, _&&_, false≢true}
+use mathlib.Core.Logic.{⊎-elim}
 use mathlib.Core.List.{List, map}
 use native.Mathlib.Omega.{arith}
 use lib.ListN.{length, length-set}
@@ -9,18 +10,21 @@ use lib.Seq.{getD-set-same, getD-set-other}
 use borrow.Author.Tests.{eqb-true, eqb-false}
 use Rattle.notation.specs.Choice.{if_then_else_}
 use Rattle.notation.specs.ChoiceLaws.{both-true}
-use Rattle.sizes.specs.Sizes.{steps, isRegister}
+use Rattle.sizes.specs.Sizes.{registers, steps, isRegister}
 use Rattle.sizes.specs.SizesLaws.{register-exactly}
 use Rattle.registers.specs.declared.RegType.{RegType}
 use Rattle.registers.specs.declared.RegType.the-variants.{Temp, Perm}
 use Rattle.instructions.specs.declared.Instruction.{Instruction}
 use Rattle.instructions.specs.declared.Instruction.the-variants.{GetVariable, GetValue, PutVariable, PutValue, PutUnsafeValue, SetVariable, SetValue, SetLocalValue, UnifyVariable, UnifyValue, UnifyLocalValue}
-use Rattle.steps.specs.Steps.{placeFits, instructionFits}
-use Rattle.machine.specs.Machine.{Contents, samePlace, written, Machine, writes, demands, adds, does}
-use Rattle.symbolic.specs.Names.{placeName, stepName, placeCells, noName, pairCells}
-use Rattle.symbolic.specs.Symbolic.{pushed, listed, Doing, doing, held, put, did}
+use Rattle.steps.specs.Steps.{isGetValueOrUnify, placeFits, instructionFits}
+use Rattle.machine.specs.Machine.{Contents, samePlace, written, spoilt, Machine, writes, demands, adds, does}
+use Rattle.classes.specs.Cases.{less-or-not}
+use Rattle.classes.specs.Classes.{inNames}
+use Rattle.symbolic.specs.Names.{placeName, stepName, placeCells, leftName, noName, pairCells}
+use Rattle.symbolic.specs.Symbolic.{pushed, listed, Doing, doing, held, put, did, spoiltUpTo}
+use Rattle.symbolic.specs.TablesLaws.{length-spoilt}
 use Rattle.on_names.specs.OnNames.{both, named}
-use Rattle.on_names.specs.PairsLaws.{snoc-map, Table, table-more, listed-pushed, table-pushed}
+use Rattle.on_names.specs.PairsLaws.{snoc-map, Table, table-more, listed-pushed, table-pushed, names-pushed}
 
 -- ---- Places and their names
 
@@ -47,7 +51,10 @@ other-name (Perm r) (Perm q) h e = eqb-false r q h (omega arith)
 pub record Places (ρ : ℕ → ℕ) (places : List ℕ) (contents : Contents) : Type 0 where
   pub size : length places ≡ placeCells
   pub holds : (place : RegType) → placeFits place ≡ true → contents place ≡ ρ (held places place)
-  pub names : (place : RegType) → placeFits place ≡ true → held places place < noName
+
+-- no place holds what a call left, so that every name has a label
+abbrev pub AllNamed : List ℕ → Type 0
+AllNamed places = (place : RegType) → placeFits place ≡ true → held places place < noName
 
 module _ (places : List ℕ) (place : RegType) (name : ℕ) where
   held-same : (other : RegType) → placeName other ≡ placeName place → placeName place < length places → held (put places place name) other ≡ name
@@ -56,40 +63,74 @@ module _ (places : List ℕ) (place : RegType) (name : ℕ) where
   held-other : (other : RegType) → (placeName other ≡ placeName place → ⊥) → held (put places place name) other ≡ held places other
   held-other other e = getD-set-other places (placeName place) (placeName other) name 0 e
 
+module _ (places : List ℕ) (size : length places ≡ placeCells) (place : RegType) (fit : placeFits place ≡ true) (name : ℕ) where
+  fits-here : placeName place < length places
+  fits-here = omega (arith, size, place-name place fit)
+
+  -- what holds of the name that is put, and of what the other places hold, holds of what every place holds
+  put-either :
+      (P : RegType → Bool → ℕ → Type 0) (other : RegType) → P other true name → P other false (held places other)
+      → P other (samePlace other place) (held (put places place name) other)
+  put-either P other here there =
+      (elim (samePlace other place) as
+      (λ t. samePlace other place ≡ t → P other t (held (put places place name) other)) [
+        | true ↦ λ e. rw (held-same places place name other (same-name other place e) fits-here) here
+        | false ↦ λ e. rw (held-other places place name other (other-name other place e)) there
+      ])
+      refl
+
+  pub named-put : AllNamed places → name < noName → AllNamed (put places place name)
+  named-put h low other fits = put-either (λ q t n. n < noName) other low (h other fits)
+
+  module _ (ρ : ℕ → ℕ) (contents : Contents) (p : Places ρ places contents) (n : ℕ) (same : n ≡ ρ name) where
+    pub places-written : Places ρ (put places place name) (written place n contents)
+    places-written =
+        record {
+          size = length-set places (placeName place) name ∙ size;
+          holds = λ other h. put-either (λ q t k. (if t then n else contents q) ≡ ρ k) other same (p .holds other h);
+        }
+
+-- ---- What `call` leaves
+
+module _ (call : ℕ) (places : List ℕ) (size : length places ≡ placeCells) where
+  held-spoilt :
+      (last r : ℕ) → last ≤ registers → 1 ≤ r → r ≤ last → held (spoiltUpTo call last places) (Temp r) ≡ leftName call r
+  unfolding spoiltUpTo
+  held-spoilt zero r few some h = absurd (omega arith)
+  held-spoilt (suc last) r few some h =
+      let now = spoiltUpTo call last places in
+      let here : placeName (Temp (suc last)) < length now = omega (arith, length-spoilt call places last, size) in
+      ⊎-elim
+      (λ less. (let other : placeName (Temp r) ≡ placeName (Temp (suc last)) → ⊥ = λ e. omega arith in
+      held-other now (Temp (suc last)) (leftName call (suc last)) (Temp r) other ∙ held-spoilt last r (omega arith) some (omega arith)))
+      (λ most. (let same : r ≡ suc last = omega arith in
+      rw same (held-same now (Temp (suc last)) (leftName call (suc last)) (Temp (suc last)) refl here)))
+      (less-or-not r (suc last))
+
+  held-kept : (last slot : ℕ) → held (spoiltUpTo call last places) (Perm slot) ≡ held places (Perm slot)
+  unfolding spoiltUpTo
+  held-kept zero slot = refl
+  held-kept (suc last) slot =
+      let other : placeName (Perm slot) ≡ placeName (Temp (suc last)) → ⊥ = λ e. omega arith in
+      held-other (spoiltUpTo call last places) (Temp (suc last)) (leftName call (suc last)) (Perm slot) other ∙ held-kept last slot
+
 module _
     (ρ : ℕ → ℕ)
     (places : List ℕ)
     (contents : Contents)
     (p : Places ρ places contents)
-    (place : RegType)
-    (fit : placeFits place ≡ true)
-    (name n : ℕ)
-    (low : name < noName)
-    (same : n ≡ ρ name)
+    (call : ℕ)
+    (left : ℕ → ℕ)
+    (leaves : (r : ℕ) → isRegister r ≡ true → left r ≡ ρ (leftName call r))
   where
-    fits-here : placeName place < length places
-    fits-here = omega (arith, p .size, place-name place fit)
+    spoilt-holds : (place : RegType) → placeFits place ≡ true → spoilt left contents place ≡ ρ (held (spoiltUpTo call registers places) place)
+    spoilt-holds (Temp r) h =
+        let fit = register-exactly r .0 h in
+        leaves r h ∙ sym (ap ρ (held-spoilt call places (p .size) registers r (omega arith) (fit .0) (fit .1)))
+    spoilt-holds (Perm slot) h = p .holds (Perm slot) h ∙ sym (ap ρ (held-kept call places (p .size) registers slot))
 
-    pub places-written : Places ρ (put places place name) (written place n contents)
-    places-written =
-        record {
-          size = length-set places (placeName place) name ∙ p .size;
-          holds = λ other h. (
-              (elim (samePlace other place) as
-              (λ t. samePlace other place ≡ t → (if t then n else contents other) ≡ ρ (held (put places place name) other)) [
-                | true ↦ λ e. same ∙ sym (ap ρ (held-same places place name other (same-name other place e) fits-here))
-                | false ↦ λ e. p .holds other h ∙ sym (ap ρ (held-other places place name other (other-name other place e)))
-              ])
-              refl
-              );
-          names = λ other h. (
-              (elim (samePlace other place) as (λ t. samePlace other place ≡ t → held (put places place name) other < noName) [
-                | true ↦ λ e. omega (arith, held-same places place name other (same-name other place e) fits-here)
-                | false ↦ λ e. omega (arith, held-other places place name other (other-name other place e), p .names other h)
-              ])
-              refl
-              );
-        }
+    pub places-spoilt : Places ρ (spoiltUpTo call registers places) (spoilt left contents)
+    places-spoilt = record { size = length-spoilt call places registers ∙ p .size; holds = spoilt-holds }
 
 -- ---- Places, equalities demanded and subterms made
 
@@ -97,6 +138,7 @@ pub record Acts (ρ : ℕ → ℕ) (step mostDemands mostMade : ℕ) (d : Doing)
   pub steps : m .steps ≡ step
   pub places : Places ρ (d .places) (m .contents)
   pub demands : Table mostDemands (d .demands)
+  pub demands-named : inNames (listed (d .demands)) ≡ true
   pub made : Table mostMade (d .made)
   pub equalities : m .equalities ≡ map (both ρ) (listed (d .demands))
   pub subterms : m .subterms ≡ map (named ρ) (listed (d .made))
@@ -108,19 +150,21 @@ module _ (ρ : ℕ → ℕ) (step x y : ℕ) (d : Doing) (m : Machine) (a : Acts
         steps = a .steps;
         places = a .places;
         demands = table-more most hx (a .demands);
+        demands-named = a .demands-named;
         made = table-more most hy (a .made);
         equalities = a .equalities;
         subterms = a .subterms;
       }
 
   acts-writes :
-      (place : RegType) → placeFits place ≡ true → (name n : ℕ) → name < noName → n ≡ ρ name
+      (place : RegType) → placeFits place ≡ true → (name n : ℕ) → n ≡ ρ name
       → Acts ρ step x y (doing (put (d .places) place name) (d .demands) (d .made)) (writes m place n)
-  acts-writes place fit name n low same =
+  acts-writes place fit name n same =
       record {
         steps = a .steps;
-        places = places-written ρ (d .places) (m .contents) (a .places) place fit name n low same;
+        places = places-written (d .places) (a .places .size) place fit name ρ (m .contents) (a .places) n same;
         demands = a .demands;
+        demands-named = a .demands-named;
         made = a .made;
         equalities = a .equalities;
         subterms = a .subterms;
@@ -133,7 +177,8 @@ module _ (ρ : ℕ → ℕ) (step x y : ℕ) (d : Doing) (m : Machine) (a : Acts
       record {
         steps = a .steps;
         places = a .places;
-        demands = table-pushed x (d .demands) name other (a .demands) room low low′;
+        demands = table-pushed x (d .demands) name other (a .demands) room;
+        demands-named = names-pushed x (d .demands) name other (a .demands) room low low′ (a .demands-named);
         made = a .made;
         equalities =
             snoc-map (both ρ) (listed (d .demands)) (name, other) (m .equalities) (n, k) (a .equalities) (λ i. (same i, same′ i))
@@ -142,14 +187,15 @@ module _ (ρ : ℕ → ℕ) (step x y : ℕ) (d : Doing) (m : Machine) (a : Acts
       }
 
   acts-adds :
-      2 * y + 2 ≤ pairCells → (name n : ℕ) → name < noName → step < noName → n ≡ ρ name
+      2 * y + 2 ≤ pairCells → (name n : ℕ) → n ≡ ρ name
       → Acts ρ step x (suc y) (doing (d .places) (d .demands) (pushed (d .made) step name)) (adds m n)
-  acts-adds room name n low low′ same =
+  acts-adds room name n same =
       record {
         steps = a .steps;
         places = a .places;
         demands = a .demands;
-        made = table-pushed y (d .made) step name (a .made) room low′ low;
+        demands-named = a .demands-named;
+        made = table-pushed y (d .made) step name (a .made) room;
         equalities = a .equalities;
         subterms =
             snoc-map (named ρ) (listed (d .made)) (step, name) (m .subterms) (m .steps, n) (a .subterms) (λ i. (a .steps i, same i))
@@ -175,10 +221,10 @@ module _
 
     -- a place gets a name
     writes-name :
-        (place : RegType) → placeFits place ≡ true → (name n : ℕ) → name < noName → n ≡ ρ name
+        (place : RegType) → placeFits place ≡ true → (name n : ℕ) → n ≡ ρ name
         → Acts ρ step (suc most) (suc most) (doing (put (d .places) place name) (d .demands) (d .made)) (writes m place n)
-    writes-name place fit name n low same =
-        acts-more ρ step most most _ _ (acts-writes ρ step most most d m a place fit name n low same) (suc most) (omega arith) (omega arith)
+    writes-name place fit name n same =
+        acts-more ρ step most most _ _ (acts-writes ρ step most most d m a place fit name n same) (suc most) (omega arith) (omega arith)
 
     -- a place gets what another place holds
     copies :
@@ -191,7 +237,7 @@ module _
         (doing (put (d .places) place (held (d .places) from)) (d .demands) (d .made))
         (writes m place (m .contents from))
     copies place from fit fit′ =
-        writes-name place fit (held (d .places) from) (m .contents from) (a .places .names from fit′) (a .places .holds from fit′)
+        writes-name place fit (held (d .places) from) (m .contents from) (a .places .holds from fit′)
 
     -- a place and the subterm list get the step's number
     fills :
@@ -205,8 +251,8 @@ module _
         (adds (writes m place (ρ (stepName step))) (ρ (stepName step)))
     fills place fit =
         let n = ρ (stepName step) in
-        let w = acts-writes ρ step most most d m a place fit (stepName step) n own-name refl in
-        let e = acts-adds ρ step most most _ _ w room (stepName step) n own-name (omega arith) refl in
+        let w = acts-writes ρ step most most d m a place fit (stepName step) n refl in
+        let e = acts-adds ρ step most most _ _ w room (stepName step) n refl in
         acts-more ρ step most (suc most) _ _ e (suc most) (omega arith) (omega arith)
 
     -- the subterm list gets what a place holds
@@ -220,14 +266,12 @@ module _
         (doing (d .places) (d .demands) (pushed (d .made) step (held (d .places) place)))
         (adds m (m .contents place))
     hands place fit =
-        let low = a .places .names place fit in
-        let same = a .places .holds place fit in
-        let e = acts-adds ρ step most most d m a room (held (d .places) place) (m .contents place) low (omega arith) same in
+        let e = acts-adds ρ step most most d m a room (held (d .places) place) (m .contents place) (a .places .holds place fit) in
         acts-more ρ step most (suc most) _ _ e (suc most) (omega arith) (omega arith)
 
     -- what a place holds is to be the step's number, which the subterm list gets
     meets :
-        (place : RegType) → placeFits place ≡ true
+        AllNamed (d .places) → (place : RegType) → placeFits place ≡ true
         → Acts
         ρ
         step
@@ -235,17 +279,17 @@ module _
         (suc most)
         (doing (d .places) (pushed (d .demands) (held (d .places) place) (stepName step)) (pushed (d .made) step (stepName step)))
         (adds (demands m (m .contents place) (ρ (stepName step))) (ρ (stepName step)))
-    meets place fit =
+    meets named place fit =
         let n = ρ (stepName step) in
         let here = held (d .places) place in
-        let low = a .places .names place fit in
+        let low = named place fit in
         let same = a .places .holds place fit in
         let e = acts-demands ρ step most most d m a room here (stepName step) (m .contents place) n low own-name same refl in
-        acts-adds ρ step (suc most) most _ _ e room (stepName step) n own-name (omega arith) refl
+        acts-adds ρ step (suc most) most _ _ e room (stepName step) n refl
 
     -- what a place holds is to be what a register holds
     compares :
-        (place from : RegType) → placeFits place ≡ true → placeFits from ≡ true
+        AllNamed (d .places) → (place from : RegType) → placeFits place ≡ true → placeFits from ≡ true
         → Acts
         ρ
         step
@@ -253,9 +297,9 @@ module _
         (suc most)
         (doing (d .places) (pushed (d .demands) (held (d .places) place) (held (d .places) from)) (d .made))
         (demands m (m .contents place) (m .contents from))
-    compares place from fit fit′ =
-        let low = a .places .names place fit in
-        let low′ = a .places .names from fit′ in
+    compares named place from fit fit′ =
+        let low = named place fit in
+        let low′ = named from fit′ in
         let same = a .places .holds place fit in
         let same′ = a .places .holds from fit′ in
         let e = acts-demands ρ step most most d m a room _ _ (m .contents place) (m .contents from) low low′ same same′ in
@@ -273,31 +317,57 @@ module _
         (writes (writes m place (ρ (stepName step))) from (ρ (stepName step)))
     names-both place from fit fit′ =
         let n = ρ (stepName step) in
-        let w = acts-writes ρ step most most d m a place fit (stepName step) n own-name refl in
-        let e = acts-writes ρ step most most _ _ w from fit′ (stepName step) n own-name refl in
+        let w = acts-writes ρ step most most d m a place fit (stepName step) n refl in
+        let e = acts-writes ρ step most most _ _ w from fit′ (stepName step) n refl in
         acts-more ρ step most most _ _ e (suc most) (omega arith) (omega arith)
 
+    -- equalities are demanded of names alone
     pub does-stands :
-        (instruction : Instruction) → instructionFits instruction ≡ true
+        (instruction : Instruction) → instructionFits instruction ≡ true → (isGetValueOrUnify instruction ≡ true → AllNamed (d .places))
         → Acts ρ step (suc most) (suc most) (did step d instruction) (does (ρ (stepName step)) m instruction)
-    does-stands (GetVariable place k) h =
+    does-stands (GetVariable place k) h named =
         let f = fits-both place k h in
         copies place (Temp k) (f .0) (f .1)
-    does-stands (GetValue place k) h =
+    does-stands (GetValue place k) h named =
         let f = fits-both place k h in
-        compares place (Temp k) (f .0) (f .1)
-    does-stands (PutVariable place k) h =
+        compares (named refl) place (Temp k) (f .0) (f .1)
+    does-stands (PutVariable place k) h named =
         let f = fits-both place k h in
         names-both place (Temp k) (f .0) (f .1)
-    does-stands (PutValue place k) h =
+    does-stands (PutValue place k) h named =
         let f = fits-both place k h in
         copies (Temp k) place (f .1) (f .0)
-    does-stands (PutUnsafeValue slot k) h =
+    does-stands (PutUnsafeValue slot k) h named =
         let f = fits-both (Perm slot) k h in
         copies (Temp k) (Perm slot) (f .1) (f .0)
-    does-stands (SetVariable place) h = fills place h
-    does-stands (SetValue place) h = hands place h
-    does-stands (SetLocalValue place) h = hands place h
-    does-stands (UnifyVariable place) h = fills place h
-    does-stands (UnifyValue place) h = meets place h
-    does-stands (UnifyLocalValue place) h = meets place h
+    does-stands (SetVariable place) h named = fills place h
+    does-stands (SetValue place) h named = hands place h
+    does-stands (SetLocalValue place) h named = hands place h
+    does-stands (UnifyVariable place) h named = fills place h
+    does-stands (UnifyValue place) h named = meets (named refl) place h
+    does-stands (UnifyLocalValue place) h named = meets (named refl) place h
+
+    -- and names are what is put where all places hold names
+    pub does-named :
+        AllNamed (d .places) → (instruction : Instruction) → instructionFits instruction ≡ true
+        → AllNamed (did step d instruction .places)
+    does-named named (GetVariable place k) h =
+        let f = fits-both place k h in
+        named-put (d .places) (a .places .size) place (f .0) _ named (named (Temp k) (f .1))
+    does-named named (GetValue place k) h = named
+    does-named named (PutVariable place k) h =
+        let f = fits-both place k h in
+        let size = length-set (d .places) (placeName place) (stepName step) ∙ a .places .size in
+        named-put (put (d .places) place (stepName step)) size (Temp k) (f .1) _ (named-put (d .places) (a .places .size) place (f .0) _ named own-name) own-name
+    does-named named (PutValue place k) h =
+        let f = fits-both place k h in
+        named-put (d .places) (a .places .size) (Temp k) (f .1) _ named (named place (f .0))
+    does-named named (PutUnsafeValue slot k) h =
+        let f = fits-both (Perm slot) k h in
+        named-put (d .places) (a .places .size) (Temp k) (f .1) _ named (named (Perm slot) (f .0))
+    does-named named (SetVariable place) h = named-put (d .places) (a .places .size) place h _ named own-name
+    does-named named (SetValue place) h = named
+    does-named named (SetLocalValue place) h = named
+    does-named named (UnifyVariable place) h = named-put (d .places) (a .places .size) place h _ named own-name
+    does-named named (UnifyValue place) h = named
+    does-named named (UnifyLocalValue place) h = named

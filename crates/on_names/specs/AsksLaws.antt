@@ -10,16 +10,20 @@ use lib.Seq.{getD-set-same, getD-set-other}
 use borrow.Author.Tests.{eqb-true, eqb-false, eq-eqb, ne-eqb, ltb-true}
 use Rattle.notation.specs.Choice.{if_then_else_}
 use Rattle.sizes.specs.Sizes.{variables, steps}
+use Rattle.sizes.specs.SizesLaws.{register-exactly}
 use Rattle.registers.specs.declared.RegType.the-variants.{Temp}
 use Rattle.steps.specs.declared.Step.{Step}
 use Rattle.steps.specs.declared.Step.the-variants.{Head, HeadDeep, Goal, GoalDeep, Call}
 use Rattle.steps.specs.Steps.{stepFits}
 use Rattle.steps.specs.OrderLaws.{argument-and-variable}
+use Rattle.machine.specs.Machine.{Contents}
 use Rattle.machine.specs.Wanted.{Value, unfixed, fixed, Wanted, valueOr, valued, demanded, wants}
+use Rattle.classes.specs.Classes.{inNames}
 use Rattle.symbolic.specs.Names.{placeName, stepName, noName, pairCells}
 use Rattle.symbolic.specs.Symbolic.{Pairs, pushed, listed, Wanting, valueOf, again, wanted}
 use Rattle.on_names.specs.OnNames.{both, named}
-use Rattle.on_names.specs.PairsLaws.{snoc-map, Table, table-more, listed-pushed, table-pushed}
+use Rattle.on_names.specs.ChoiceLaws.{Chooses}
+use Rattle.on_names.specs.PairsLaws.{snoc-map, Table, table-more, listed-pushed, table-pushed, names-pushed}
 
 -- ---- The name in the place of a variable's value
 
@@ -43,18 +47,20 @@ module _ (ρ : ℕ → ℕ) (offered n : ℕ) (low : offered < noName) (same : n
 
   -- what a later head step demands
   pub again-stands :
-      (most : ℕ) → 2 * most + 2 ≤ pairCells → (wants : Pairs) → Table most wants
+      (most : ℕ) → 2 * most + 2 ≤ pairCells → (wants : Pairs) → Table most wants → inNames (listed wants) ≡ true
       → (equalities : List (ℕ × ℕ)) → equalities ≡ map (both ρ) (listed wants)
       → (name : ℕ) (value : Value) → ValueNamed ρ name value
       → Table (suc most) (again wants name offered)
+      × (inNames (listed (again wants name offered)) ≡ true)
       × (equalities ++ demanded value n ≡ map (both ρ) (listed (again wants name offered)))
   unfolding again
-  again-stands most room wants t equalities e name unfixed h =
-      simp (eq-eqb name noName h) (table-more (suc most) (omega arith) t, append-nil equalities ∙ e)
-  again-stands most room wants t equalities e name (fixed k) h =
+  again-stands most room wants t named equalities e name unfixed h =
+      simp (eq-eqb name noName h) (table-more (suc most) (omega arith) t, named, append-nil equalities ∙ e)
+  again-stands most room wants t named equalities e name (fixed k) h =
       let differ : name ≡ noName → ⊥ = λ e. omega arith in
       simp (ne-eqb name noName differ) (
-        table-pushed most wants name offered t room (h .0) low,
+        table-pushed most wants name offered t room,
+        names-pushed most wants name offered t room (h .0) low named,
         snoc-map (both ρ) (listed wants) (name, offered) equalities (k, n) e (λ i. (h .1 i, same i))
             ∙ sym (ap (map (both ρ)) (listed-pushed most wants name offered t room)),
       )
@@ -87,13 +93,18 @@ pub record Asks (ρ : ℕ → ℕ) (step : ℕ) (w : Wanting) (v : Wanted) : Typ
   pub steps : v .steps ≡ step
   pub values : Values ρ (w .values) (v .values)
   pub wants : Table step (w .wants)
+  pub wants-named : inNames (listed (w .wants)) ≡ true
   pub due : Table step (w .due)
   pub equalities : v .equalities ≡ map (both ρ) (listed (w .wants))
   pub subterms : v .subterms ≡ map (named ρ) (listed (w .due))
 
 -- the step that begins
 module _
-    (ρ : ℕ → ℕ)
+    {ρ : ℕ → ℕ}
+    {entry : Contents}
+    {number : ℕ → ℕ}
+    {left : ℕ → ℕ → ℕ}
+    (chooses : Chooses ρ entry number left)
     (step next : ℕ)
     (follows : next ≡ suc step)
     (few : next ≤ steps)
@@ -108,8 +119,8 @@ module _
     counted = ap suc (a .steps) ∙ sym follows
 
     -- the step's number
-    offers : ρ (stepName (suc (wanted-so-far .steps))) ≡ ρ (stepName next)
-    offers = ap (λ (n : ℕ). ρ (stepName n)) counted
+    pub offers : number (suc (wanted-so-far .steps)) ≡ ρ (stepName next)
+    offers = ap number counted ∙ chooses .numbers next few
 
     own-name : stepName next < noName
     own-name = omega arith
@@ -123,6 +134,7 @@ module _
     demands-again :
         (offered n : ℕ) → offered < noName → n ≡ ρ offered → (v : ℕ) → v < variables
         → Table (suc step) (again (w .wants) (getD (w .values) v 0) offered)
+        × (inNames (listed (again (w .wants) (getD (w .values) v 0) offered)) ≡ true)
         × (wanted-so-far .equalities ++ demanded (wanted-so-far .values v) n ≡ map (both ρ) (listed (again (w .wants) (getD (w .values) v 0) offered)))
     demands-again offered n low same v small =
         again-stands
@@ -135,6 +147,7 @@ module _
         room
         (w .wants)
         (a .wants)
+        (a .wants-named)
         (wanted-so-far .equalities)
         (a .equalities)
         (getD (w .values) v 0)
@@ -142,54 +155,58 @@ module _
         (a .values .stands v small)
 
     subterm-due :
-        (name n : ℕ) → name < noName → n ≡ ρ name
+        (name n : ℕ) → n ≡ ρ name
         → Table next (pushed (w .due) next name)
         × (wanted-so-far .subterms ++ (suc (wanted-so-far .steps), n) ∷ [] ≡ map (named ρ) (listed (pushed (w .due) next name)))
-    subterm-due name n low same = (
-      grown _ (table-pushed step (w .due) next name (a .due) room (omega arith) low),
+    subterm-due name n same = (
+      grown _ (table-pushed step (w .due) next name (a .due) room),
       snoc-map (named ρ) (listed (w .due)) (next, name) (wanted-so-far .subterms) (suc (wanted-so-far .steps), n) (a .subterms) (λ i. (counted i, same i))
           ∙ sym (ap (map (named ρ)) (listed-pushed step (w .due) next name (a .due) room)),
     )
 
     pub wants-stands :
         (begins : Step) → stepFits begins ≡ true
-        → Asks ρ next (wanted next w begins) (wants (λ place. ρ (placeName place)) (λ i. ρ (stepName i)) wanted-so-far begins)
+        → Asks ρ next (wanted next w begins) (wants entry number wanted-so-far begins)
     wants-stands (Head k v) h =
         let f = argument-and-variable k v h in
         let o = placeName (Temp k) in
         let low : o < noName = omega arith in
-        let demand = demands-again o (ρ o) low refl v (f .2) in
+        let same = chooses .entries (Temp k) (register-exactly k .1 (f .0, f .1)) in
+        let demand = demands-again o (entry (Temp k)) low same v (f .2) in
         record {
           steps = counted;
-          values = values-fixed ρ o (ρ o) low refl (w .values) (wanted-so-far .values) (a .values) v (f .2);
+          values = values-fixed ρ o (entry (Temp k)) low same (w .values) (wanted-so-far .values) (a .values) v (f .2);
           wants = grown _ (demand .0);
+          wants-named = demand .1;
           due = more _ (a .due);
-          equalities = demand .1;
+          equalities = demand .2;
           subterms = append-nil (wanted-so-far .subterms) ∙ a .subterms;
         }
     wants-stands (HeadDeep v) h =
         let small = ltb-true v variables h in
         let o = stepName next in
-        let n = ρ (stepName (suc (wanted-so-far .steps))) in
+        let n = number (suc (wanted-so-far .steps)) in
         let demand = demands-again o n own-name offers v small in
         let value = value-stands ρ o n own-name offers (getD (w .values) v 0) (wanted-so-far .values v) (a .values .stands v small) in
-        let due-now = subterm-due (valueOf (getD (w .values) v 0) o) (valueOr (wanted-so-far .values v) n) (value .0) (value .1) in
+        let due-now = subterm-due (valueOf (getD (w .values) v 0) o) (valueOr (wanted-so-far .values v) n) (value .1) in
         record {
           steps = counted;
           values = values-fixed ρ o n own-name offers (w .values) (wanted-so-far .values) (a .values) v small;
           wants = grown _ (demand .0);
+          wants-named = demand .1;
           due = due-now .0;
-          equalities = demand .1;
+          equalities = demand .2;
           subterms = due-now .1;
         }
     wants-stands (Goal k v) h =
         let f = argument-and-variable k v h in
         let o = stepName next in
-        let n = ρ (stepName (suc (wanted-so-far .steps))) in
+        let n = number (suc (wanted-so-far .steps)) in
         record {
           steps = counted;
           values = values-fixed ρ o n own-name offers (w .values) (wanted-so-far .values) (a .values) v (f .2);
           wants = more _ (a .wants);
+          wants-named = a .wants-named;
           due = more _ (a .due);
           equalities = append-nil (wanted-so-far .equalities) ∙ a .equalities;
           subterms = append-nil (wanted-so-far .subterms) ∙ a .subterms;
@@ -197,13 +214,14 @@ module _
     wants-stands (GoalDeep v) h =
         let small = ltb-true v variables h in
         let o = stepName next in
-        let n = ρ (stepName (suc (wanted-so-far .steps))) in
+        let n = number (suc (wanted-so-far .steps)) in
         let value = value-stands ρ o n own-name offers (getD (w .values) v 0) (wanted-so-far .values v) (a .values .stands v small) in
-        let due-now = subterm-due (valueOf (getD (w .values) v 0) o) (valueOr (wanted-so-far .values v) n) (value .0) (value .1) in
+        let due-now = subterm-due (valueOf (getD (w .values) v 0) o) (valueOr (wanted-so-far .values v) n) (value .1) in
         record {
           steps = counted;
           values = values-fixed ρ o n own-name offers (w .values) (wanted-so-far .values) (a .values) v small;
           wants = more _ (a .wants);
+          wants-named = a .wants-named;
           due = due-now .0;
           equalities = append-nil (wanted-so-far .equalities) ∙ a .equalities;
           subterms = due-now .1;
@@ -213,6 +231,7 @@ module _
           steps = counted;
           values = a .values;
           wants = more _ (a .wants);
+          wants-named = a .wants-named;
           due = more _ (a .due);
           equalities = a .equalities;
           subterms = a .subterms;

@@ -1,47 +1,80 @@
--- Every choice of entry contents and step numbers is a choice of names' values.
-use Prim.Native.Nat.{ℕ, zero, suc, _+_, _*_, _/_, _%_}
-use mathlib.Core.Path.{_≡_, ap₂, fun-ext, subst₂}
-use mathlib.Core.List.{List}
+-- A choice for a check sheet and a choice of names' values: each is made by one of the other kind.
+use Prim.Native.Nat.{ℕ, zero, suc, _+_, _*_, _/_, _%_, _≤_}
+use mathlib.Core.Path.{_≡_, refl, sym, ap₂, _∙_}
+use mathlib.Core.Bool.{true}
 use native.Mathlib.Omega.{arith}
+use Rattle.sizes.specs.Sizes.{registers, steps, isRegister}
+use Rattle.sizes.specs.SizesLaws.{register-exactly}
 use Rattle.registers.specs.declared.RegType.{RegType}
 use Rattle.registers.specs.declared.RegType.the-variants.{Temp, Perm}
-use Rattle.steps.specs.declared.CheckLine.{CheckLine}
+use Rattle.steps.specs.Steps.{placeFits}
 use Rattle.machine.specs.Machine.{Contents}
-use Rattle.machine.specs.Right.{RightFor, Right}
-use Rattle.symbolic.specs.Names.{placeName, stepName}
-use Rattle.on_names.specs.StandsLaws.{entryOf, numberOf}
+use Rattle.symbolic.specs.Names.{placeName, stepName, leftName}
 
--- the value of a name: what it names is told by the rest by 3
-abbrev valueAt : Contents → (ℕ → ℕ) → ℕ → ℕ → ℕ
-valueAt entry number zero n = entry (Temp n)
-valueAt entry number (suc zero) n = entry (Perm n)
-valueAt entry number (suc (suc rest)) n = number n
+-- names have the values that are chosen, as far as a sheet of 256 step lines can name registers, slots, steps and calls
+pub record Chooses (ρ : ℕ → ℕ) (entry : Contents) (number : ℕ → ℕ) (left : ℕ → ℕ → ℕ) : Type 0 where
+  pub entries : (place : RegType) → placeFits place ≡ true → entry place ≡ ρ (placeName place)
+  pub numbers : (step : ℕ) → step ≤ steps → number step ≡ ρ (stepName step)
+  pub leaves : (call r : ℕ) → 1 ≤ call → call ≤ steps → isRegister r ≡ true → left call r ≡ ρ (leftName call r)
 
-abbrev pub chosen : Contents → (ℕ → ℕ) → ℕ → ℕ
-chosen entry number name = valueAt entry number (name % 3) (name / 3)
+-- ---- Of names' values, a choice for a sheet
 
-module _ (entry : Contents) (number : ℕ → ℕ) where
-  told : (name rest n : ℕ) → name % 3 ≡ rest → name / 3 ≡ n → chosen entry number name ≡ valueAt entry number rest n
-  told name rest n e f = ap₂ (valueAt entry number) e f
+module _ (ρ : ℕ → ℕ) where
+  abbrev pub entryOf : Contents
+  entryOf place = ρ (placeName place)
 
-  chosen-place : (place : RegType) → chosen entry number (placeName place) ≡ entry place
-  chosen-place (Temp r) = told (3 * r) 0 r (omega arith) (omega arith)
-  chosen-place (Perm r) = told (3 * r + 1) 1 r (omega arith) (omega arith)
+  abbrev pub numberOf : ℕ → ℕ
+  numberOf step = ρ (stepName step)
 
-  chosen-step : (step : ℕ) → chosen entry number (stepName step) ≡ number step
-  chosen-step step = told (3 * step + 2) 2 step (omega arith) (omega arith)
+  abbrev pub leftOf : ℕ → ℕ → ℕ
+  leftOf call r = ρ (leftName call r)
 
-  pub chosen-entry : entryOf (chosen entry number) ≡ entry
-  chosen-entry = fun-ext chosen-place
+  pub chooses-of : Chooses ρ entryOf numberOf leftOf
+  chooses-of = record { entries = λ place h. refl; numbers = λ step h. refl; leaves = λ call r h few fit. refl }
 
-  pub chosen-number : numberOf (chosen entry number) ≡ number
-  chosen-number = fun-ext chosen-step
+-- ---- Of a choice for a sheet, names' values
 
--- right for every choice of names' values is right for every choice
-module _ (lines : List CheckLine) where
-  pub right-names : ((ρ : ℕ → ℕ) → RightFor (entryOf ρ) (numberOf ρ) lines) → Right lines
-  right-names h entry number =
-      subst₂ (λ (e : Contents) (n : ℕ → ℕ). RightFor e n lines) (chosen-entry entry number) (chosen-number entry number) (h (chosen entry number))
+module _ (entry : Contents) (number : ℕ → ℕ) (left : ℕ → ℕ → ℕ) where
+  -- what a register holds at entry, or behind a call
+  abbrev registerValue : ℕ → ℕ → ℕ
+  registerValue zero r = entry (Temp r)
+  registerValue (suc call) r = left (suc call) r
 
-  pub names-right : Right lines → (ρ : ℕ → ℕ) → RightFor (entryOf ρ) (numberOf ρ) lines
-  names-right h ρ = h (entryOf ρ) (numberOf ρ)
+  -- what a name names is told by the rest by 3
+  abbrev valueAt : ℕ → ℕ → ℕ
+  valueAt zero n = registerValue (n / (registers + 1)) (n % (registers + 1))
+  valueAt (suc zero) n = entry (Perm n)
+  valueAt (suc (suc rest)) n = number n
+
+  abbrev pub chosen : ℕ → ℕ
+  chosen name = valueAt (name % 3) (name / 3)
+
+  told : (name rest n : ℕ) → name % 3 ≡ rest → name / 3 ≡ n → chosen name ≡ valueAt rest n
+  told name rest n e f = ap₂ valueAt e f
+
+  register-told : (n call r : ℕ) → n / (registers + 1) ≡ call → n % (registers + 1) ≡ r → valueAt 0 n ≡ registerValue call r
+  register-told n call r e f = ap₂ registerValue e f
+
+  chosen-place : (place : RegType) → placeFits place ≡ true → entry place ≡ chosen (placeName place)
+  chosen-place (Temp r) h =
+      let fit = register-exactly r .0 h in
+      sym (told (3 * r) 0 r (omega arith) (omega arith) ∙ register-told r 0 r (omega arith) (omega arith))
+  chosen-place (Perm r) h = sym (told (3 * r + 1) 1 r (omega arith) (omega arith))
+
+  chosen-step : (step : ℕ) → number step ≡ chosen (stepName step)
+  chosen-step step = sym (told (3 * step + 2) 2 step (omega arith) (omega arith))
+
+  chosen-left : (call r : ℕ) → 1 ≤ call → isRegister r ≡ true → left call r ≡ chosen (leftName call r)
+  chosen-left zero r some h = absurd (omega arith)
+  chosen-left (suc call) r some h =
+      let fit = register-exactly r .0 h in
+      let n = (registers + 1) * suc call + r in
+      sym (told (leftName (suc call) r) 0 n (omega arith) (omega arith) ∙ register-told n (suc call) r (omega arith) (omega arith))
+
+  pub chooses-chosen : Chooses chosen entry number left
+  chooses-chosen =
+      record {
+        entries = chosen-place;
+        numbers = λ step h. chosen-step step;
+        leaves = λ call r some few fit. chosen-left call r some fit;
+      }

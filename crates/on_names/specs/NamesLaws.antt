@@ -6,14 +6,14 @@ use mathlib.Core.Logic.{_↔_}
 use mathlib.Core.List.{List, [], _∷_, map, head-eq-of-cons-eq, tail-eq-of-cons-eq}
 use Rattle.steps.specs.declared.CheckLine.{CheckLine}
 use Rattle.steps.specs.Order.{freshOrder}
-use Rattle.machine.specs.Machine.{run}
+use Rattle.machine.specs.Machine.{Contents, run}
 use Rattle.machine.specs.Wanted.{wanted}
 use Rattle.machine.specs.Right.{AllHold, RightFor, Right}
 use Rattle.classes.specs.Forces.{Holds}
 use Rattle.symbolic.specs.Symbolic.{listed, allAccepted}
 use Rattle.on_names.specs.OnNames.{both, first, second, symbolsOf, RightUnder, RightOnNames}
-use Rattle.on_names.specs.StandsLaws.{entryOf, numberOf, Stands, sheet-stands}
-use Rattle.on_names.specs.ChoiceLaws.{right-names}
+use Rattle.on_names.specs.StandsLaws.{Stands, sheet-stands}
+use Rattle.on_names.specs.ChoiceLaws.{Chooses, entryOf, numberOf, leftOf, chooses-of, chosen, chooses-chosen}
 
 -- ---- Pairs that hold
 
@@ -39,31 +39,39 @@ claims-hold ρ ((x, y) ∷ claims) =
 
 -- ---- One choice
 
-module _ (lines : List CheckLine) (good : allAccepted freshOrder lines ≡ true) (ρ : ℕ → ℕ) where
-  stands : Stands ρ (symbolsOf lines) (run (entryOf ρ) (numberOf ρ) lines) (wanted (entryOf ρ) (numberOf ρ) lines)
-  stands = sheet-stands lines good ρ
+module _
+    (lines : List CheckLine)
+    (good : allAccepted freshOrder lines ≡ true)
+    {ρ : ℕ → ℕ}
+    {entry : Contents}
+    {number : ℕ → ℕ}
+    {left : ℕ → ℕ → ℕ}
+    (chooses : Chooses ρ entry number left)
+  where
+    stands : Stands ρ (symbolsOf lines) (run entry number left lines) (wanted entry number lines)
+    stands = sheet-stands lines good chooses
 
-  demands-hold : AllHold (run (entryOf ρ) (numberOf ρ) lines .equalities) ↔ Holds ρ (listed (symbolsOf lines .doing .demands))
-  demands-hold = hold-stands ρ _ _ (stands .demands)
+    demands-hold : AllHold (run entry number left lines .equalities) ↔ Holds ρ (listed (symbolsOf lines .doing .demands))
+    demands-hold = hold-stands ρ _ _ (stands .demands)
 
-  wants-hold : AllHold (wanted (entryOf ρ) (numberOf ρ) lines .equalities) ↔ Holds ρ (listed (symbolsOf lines .wanting .wants))
-  wants-hold = hold-stands ρ _ _ (stands .wants)
+    wants-hold : AllHold (wanted entry number lines .equalities) ↔ Holds ρ (listed (symbolsOf lines .wanting .wants))
+    wants-hold = hold-stands ρ _ _ (stands .wants)
 
-  right-under : RightFor (entryOf ρ) (numberOf ρ) lines → RightUnder ρ (symbolsOf lines)
-  right-under r =
-      record {
-        equalities = (λ h. wants-hold .0 (r .equalities .0 (demands-hold .1 h)), λ h. demands-hold .0 (r .equalities .1 (wants-hold .1 h)));
-        arguments = λ h. sym (stands .read) ∙ r .arguments (demands-hold .1 h) ∙ stands .arguments;
-        subterms = λ h. sym (stands .made) ∙ r .subterms (demands-hold .1 h) ∙ stands .due;
-      }
+    right-under : RightFor entry number left lines → RightUnder ρ (symbolsOf lines)
+    right-under r =
+        record {
+          equalities = (λ h. wants-hold .0 (r .equalities .0 (demands-hold .1 h)), λ h. demands-hold .0 (r .equalities .1 (wants-hold .1 h)));
+          arguments = λ h. sym (stands .read) ∙ r .arguments (demands-hold .1 h) ∙ stands .arguments;
+          subterms = λ h. sym (stands .made) ∙ r .subterms (demands-hold .1 h) ∙ stands .due;
+        }
 
-  under-right : RightUnder ρ (symbolsOf lines) → RightFor (entryOf ρ) (numberOf ρ) lines
-  under-right r =
-      record {
-        equalities = (λ h. wants-hold .1 (r .equalities .0 (demands-hold .0 h)), λ h. demands-hold .1 (r .equalities .1 (wants-hold .0 h)));
-        arguments = λ h. stands .read ∙ r .arguments (demands-hold .0 h) ∙ sym (stands .arguments);
-        subterms = λ h. stands .made ∙ r .subterms (demands-hold .0 h) ∙ sym (stands .due);
-      }
+    under-right : RightUnder ρ (symbolsOf lines) → RightFor entry number left lines
+    under-right r =
+        record {
+          equalities = (λ h. wants-hold .1 (r .equalities .0 (demands-hold .0 h)), λ h. demands-hold .1 (r .equalities .1 (wants-hold .0 h)));
+          arguments = λ h. stands .read ∙ r .arguments (demands-hold .0 h) ∙ sym (stands .arguments);
+          subterms = λ h. stands .made ∙ r .subterms (demands-hold .0 h) ∙ sym (stands .due);
+        }
 
 -- ---- Every choice
 
@@ -71,6 +79,6 @@ pub right-on-names :
     (lines : List CheckLine) → allAccepted freshOrder lines ≡ true
     → Right lines ↔ RightOnNames (symbolsOf lines)
 right-on-names lines good = (
-  λ r ρ. right-under lines good ρ (r (entryOf ρ) (numberOf ρ)),
-  λ r. right-names lines (λ ρ. under-right lines good ρ (r ρ)),
+  λ right ρ. right-under lines good (chooses-of ρ) (right (entryOf ρ) (numberOf ρ) (leftOf ρ)),
+  λ right entry number left. under-right lines good (chooses-chosen entry number left) (right (chosen entry number left)),
 )

@@ -1,4 +1,4 @@
--- Laws of pairs in a table: what is listed after one more, and that all numbers are names.
+-- Laws of pairs in a table: what is listed after one more, and whether all numbers are names.
 use Prim.Native.Nat.{ℕ, suc, _+_, _*_, _≤_, _<_}
 use mathlib.Core.Path.{_≡_, refl, sym, ap, _∙_}
 use mathlib.Core.Bool.{true}
@@ -42,24 +42,22 @@ names-snoc l a b h ha hb = simp (names-append l ((a, b) ∷ []), h, names-both a
 
 -- ---- A table
 
--- a table of pairs as it is used: its cells are all there, two of them count for each pair, the pairs are at most so many, and
--- every number is below the names' end
+-- a table of pairs as it is used: its cells are all there, two of them count for each pair, and the pairs are at most so many
 pub record Table (most : ℕ) (p : Pairs) : Type 0 where
   pub size : length (p .cells) ≡ pairCells
   pub count : p .count ≡ 2 * length (listed p)
   pub few : length (listed p) ≤ most
-  pub named : inNames (listed p) ≡ true
 
 pub table-more : {most : ℕ} {p : Pairs} (more : ℕ) → most ≤ more → Table most p → Table more p
-table-more more h t = record { size = t .size; count = t .count; few = omega arith; named = t .named }
+table-more more h t = record { size = t .size; count = t .count; few = omega arith }
 
 pub table-exact : {most : ℕ} {p : Pairs} → Table most p → Table (length (listed p)) p
-table-exact t = record { size = t .size; count = t .count; few = omega arith; named = t .named }
+table-exact t = record { size = t .size; count = t .count; few = omega arith }
 
 -- with no pair that counts
 pub table-none : (cells : List ℕ) → length cells ≡ pairCells → Table 0 (pairs cells 0)
-unfolding listed pairsOf inNames
-table-none cells h = record { size = h; count = refl; few = omega arith; named = refl }
+unfolding listed pairsOf
+table-none cells h = record { size = h; count = refl; few = omega arith }
 
 pub table-fresh : Table 0 noPairs
 table-fresh = table-none (replicate pairCells 0) (length-replicate {A = ℕ} pairCells 0)
@@ -94,8 +92,8 @@ module _ (most : ℕ) (p : Pairs) (a b : ℕ) (t : Table most p) (room : 2 * mos
   longer : length (listed (pushed p a b)) ≡ length (listed p) + 1
   longer = ap length listed-pushed ∙ length-append (listed p) ((a, b) ∷ [])
 
-  pub table-pushed : a < noName → b < noName → Table (suc most) (pushed p a b)
-  table-pushed ha hb =
+  pub table-pushed : Table (suc most) (pushed p a b)
+  table-pushed =
       record {
         size =
             ap (λ (q : Pairs). length (q .cells)) pushed-as
@@ -104,5 +102,7 @@ module _ (most : ℕ) (p : Pairs) (a b : ℕ) (t : Table most p) (room : 2 * mos
             ∙ t .size;
         count = ap (λ (q : Pairs). q .count) pushed-as ∙ omega (arith, longer, t .count);
         few = omega (arith, longer, t .few);
-        named = rw listed-pushed (names-snoc (listed p) a b (t .named) ha hb);
       }
+
+  pub names-pushed : a < noName → b < noName → inNames (listed p) ≡ true → inNames (listed (pushed p a b)) ≡ true
+  names-pushed ha hb h = rw listed-pushed (names-snoc (listed p) a b h ha hb)

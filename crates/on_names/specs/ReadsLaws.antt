@@ -1,17 +1,15 @@
 -- Laws of what the calls read: a goal's arguments, each register with the name that it has to hold, become claims.
-use Prim.Native.Nat.{ℕ, suc, _+_, _*_, _≤_, _<_}
+use Prim.Native.Nat.{ℕ, suc, _+_, _*_, _≤_}
 use mathlib.Core.Path.{_≡_, refl, sym, ap, ap₂, _∙_}
 use mathlib.Core.Bool.{true}
 use mathlib.Core.List.{List, [], _∷_, _++_, map, append-nil, append-assoc}
 use native.Mathlib.Omega.{arith}
 use lib.ListN.{length, length-append}
-use Rattle.notation.specs.ChoiceLaws.{both-true}
 use Rattle.sizes.specs.Sizes.{steps, isRegister}
 use Rattle.registers.specs.declared.RegType.the-variants.{Temp}
-use Rattle.classes.specs.Classes.{bothNames, inNames, pairsOf}
-use Rattle.classes.specs.ClassesLaws.{both-names}
+use Rattle.classes.specs.Classes.{pairsOf}
 use Rattle.machine.specs.Machine.{Contents}
-use Rattle.symbolic.specs.Names.{noName, pairCells}
+use Rattle.symbolic.specs.Names.{pairCells}
 use Rattle.symbolic.specs.Symbolic.{Pairs, pairs, pushed, listed, held, claimed}
 use Rattle.on_names.specs.OnNames.{first, second}
 use Rattle.on_names.specs.PairsLaws.{map-append, snoc-map, Table, table-more, table-exact, table-none, listed-pushed, table-pushed}
@@ -39,27 +37,25 @@ registers-snoc ((q, other) ∷ arguments) k name h e = (h .0, registers-snoc arg
 abbrev pub claim : List ℕ → ℕ × ℕ → ℕ × ℕ
 claim places p = (held places (Temp (p .0)), p .1)
 
-module _ (ρ : ℕ → ℕ) (places : List ℕ) (contents : Contents) (p : Places ρ places contents) where
+module _ (places : List ℕ) where
   claimed-listed :
-      (arguments : List (ℕ × ℕ)) → AllRegisters arguments → inNames arguments ≡ true
-      → (most : ℕ) (claims : Pairs) → Table most claims → 2 * (most + length arguments) ≤ pairCells
+      (arguments : List (ℕ × ℕ)) (most : ℕ) (claims : Pairs) → Table most claims → 2 * (most + length arguments) ≤ pairCells
       → Table (most + length arguments) (claimed places claims arguments)
       × (listed (claimed places claims arguments) ≡ listed claims ++ map (claim places) arguments)
-  unfolding claimed inNames
-  claimed-listed [] fit named most claims t room = (table-more (most + 0) (omega arith) t, sym (append-nil (listed claims)))
-  claimed-listed ((k, name) ∷ arguments) fit named most claims t room =
-      let n = both-true (bothNames k name) (inNames arguments) named in
-      let low = both-names k name (n .0) .1 in
+  unfolding claimed
+  claimed-listed [] most claims t room = (table-more (most + 0) (omega arith) t, sym (append-nil (listed claims)))
+  claimed-listed ((k, name) ∷ arguments) most claims t room =
       let here = held places (Temp k) in
       let space : 2 * most + 2 ≤ pairCells = omega arith in
-      let t′ = table-pushed most claims here name t space (p .names (Temp k) (fit .0)) low in
-      let rest = claimed-listed arguments (fit .1) (n .1) (suc most) (pushed claims here name) t′ (omega arith) in (
+      let more = table-pushed most claims here name t space in
+      let rest = claimed-listed arguments (suc most) (pushed claims here name) more (omega arith) in (
         table-more (most + suc (length arguments)) (omega arith) (rest .0),
         rest .1
             ∙ ap (λ (l : List (ℕ × ℕ)). l ++ map (claim places) arguments) (listed-pushed most claims here name t space)
             ∙ append-assoc (listed claims) ((here, name) ∷ []) (map (claim places) arguments),
       )
 
+module _ (ρ : ℕ → ℕ) (places : List ℕ) (contents : Contents) (p : Places ρ places contents) where
   read-claims :
       (arguments : List (ℕ × ℕ)) → AllRegisters arguments
       → map (λ k. contents (Temp k)) (map register arguments) ≡ map (first ρ) (map (claim places) arguments)
@@ -116,14 +112,14 @@ module _
 
     -- one argument more
     pub reads-argument :
-        (k name n : ℕ) → isRegister k ≡ true → k < noName → name < noName → n ≡ ρ name
+        (k name n : ℕ) → isRegister k ≡ true → n ≡ ρ name
         → Reads ρ next (pushed goal k name) claims (ks ++ k ∷ []) (names ++ n ∷ []) read arguments
-    reads-argument k name n e small low same =
+    reads-argument k name n e same =
         let room : 2 * step + 2 ≤ pairCells = omega arith in
         let more = listed-pushed step goal k name (r .goal-table) room in
         let longer = ap length more ∙ length-append (listed goal) ((k, name) ∷ []) in
         record {
-          goal-table = table-more next (omega arith) (table-pushed step goal k name (r .goal-table) room small low);
+          goal-table = table-more next (omega arith) (table-pushed step goal k name (r .goal-table) room);
           claims-table = table-more next (omega arith) (r .claims-table);
           few = omega (arith, r .few, longer);
           fit = rw more (registers-snoc (listed goal) k name (r .fit) e);
@@ -140,8 +136,7 @@ module _
     unfolding listed pairsOf
     reads-call places contents p =
         let exact = table-exact (r .claims-table) in
-        let all-names = r .goal-table .named in
-        let now = claimed-listed ρ places contents p (listed goal) (r .fit) all-names (length (listed claims)) claims exact (omega (arith, r .few)) in
+        let now = claimed-listed places (listed goal) (length (listed claims)) claims exact (omega (arith, r .few)) in
         let read-now = read-claims ρ places contents p (listed goal) (r .fit) in
         let whole = listed (claimed places claims (listed goal)) in
         let new = map (claim places) (listed goal) in

@@ -11,7 +11,7 @@ use Rattle.notation.specs.ChoiceLaws.{both-true}
 use Rattle.notation.specs.Lists.{numbersFrom}
 use Rattle.notation.specs.ListLaws.{length-numbers, getD-numbers}
 use Rattle.refusals.specs.Refusals.{accepted}
-use Rattle.sizes.specs.Sizes.{variables, steps, instructions}
+use Rattle.sizes.specs.Sizes.{variables, steps, instructions, isRegister}
 use Rattle.sizes.specs.SizesLaws.{register-exactly}
 use Rattle.registers.specs.declared.RegType.{RegType}
 use Rattle.instructions.specs.declared.Instruction.{Instruction}
@@ -21,29 +21,22 @@ use Rattle.steps.specs.declared.Step.the-variants.{Head, HeadDeep, Goal, GoalDe
 use Rattle.steps.specs.declared.CheckLine.{CheckLine}
 use Rattle.steps.specs.declared.CheckLine.the-variants.{Begins, Does}
 use Rattle.steps.specs.declared.Order.{Order}
-use Rattle.steps.specs.Steps.{fits}
-use Rattle.steps.specs.Order.{freshOrder, begun, done, following, judged}
-use Rattle.steps.specs.OrderLaws.{line-fits, accepted-order, begins-few, does-few, argument-and-variable}
-use Rattle.classes.specs.Classes.{pairsOf}
+use Rattle.steps.specs.Steps.{isGetValueOrUnify, fits}
+use Rattle.steps.specs.Order.{headStep, kindOf, freshOrder, begun, done, following, judged}
+use Rattle.steps.specs.OrderLaws.{line-fits, accepted-order, begins-few, does-few, head-goes-on, demands-in-head, argument-and-variable}
+use Rattle.classes.specs.Classes.{pairsOf, inNames}
 use Rattle.machine.specs.Machine.{Contents, Machine, begins, does, stepped, runFrom, atEntry, run}
 use Rattle.machine.specs.Machine.{carried as machineCarried}
 use Rattle.machine.specs.Wanted.{Wanted, wants, wantedBy, wantedFrom, nothingWanted}
 use Rattle.machine.specs.Wanted.{wanted as wantedOf}
-use Rattle.symbolic.specs.Names.{placeName, stepName, placeCells, noName, pairCells}
-use Rattle.symbolic.specs.Symbolic.{listed, Symbols, wanted, claimedAt, carried, noPairs, freshSymbols, allAccepted, carriedAll}
+use Rattle.symbolic.specs.Names.{placeName, stepName, placeCells, leftName, noName, pairCells}
+use Rattle.symbolic.specs.Symbolic.{listed, doing, leftAt, Symbols, wanted, claimedAt, carried, noPairs, freshSymbols, allAccepted, carriedAll}
 use Rattle.on_names.specs.OnNames.{both, named, first, second, symbolsOf}
+use Rattle.on_names.specs.ChoiceLaws.{Chooses, chooses-of}
 use Rattle.on_names.specs.PairsLaws.{Table, table-more, table-fresh}
-use Rattle.on_names.specs.ActsLaws.{place-name, Places, Acts, acts-more, does-stands}
-use Rattle.on_names.specs.AsksLaws.{value-stands, Asks, wants-stands}
+use Rattle.on_names.specs.ActsLaws.{place-name, Places, AllNamed, places-spoilt, Acts, acts-more, does-stands, does-named}
+use Rattle.on_names.specs.AsksLaws.{value-stands, Asks, offers, wants-stands}
 use Rattle.on_names.specs.ReadsLaws.{register, Reads, reads-same, reads-argument, reads-call}
-
--- ---- A choice of names' values is one of entry contents and step numbers
-
-abbrev pub entryOf : (ℕ → ℕ) → Contents
-entryOf ρ place = ρ (placeName place)
-
-abbrev pub numberOf : (ℕ → ℕ) → ℕ → ℕ
-numberOf ρ step = ρ (stepName step)
 
 -- ---- What stands between lines
 
@@ -55,13 +48,19 @@ pub record Standing (ρ : ℕ → ℕ) (order : Order) (s : Symbols) (m : Machin
   pub few : order .steps ≤ steps
   pub short : order .instructions ≤ instructions
   pub acts : Acts ρ (order .steps) (mostDone order) (mostDone order) (s .doing) m
+  -- in the head, where equalities are demanded, no call has left anything
+  pub named : order .kind ≤ headStep → AllNamed (s .doing .places)
   pub asks : Asks ρ (order .steps) (s .wanting) w
   pub reads : Reads ρ (order .steps) (s .wanting .goal) (s .claims) (m .goal) (w .goal) (m .read) (w .arguments)
 
 -- ---- A step line
 
 module _
-    (ρ : ℕ → ℕ)
+    {ρ : ℕ → ℕ}
+    {entry : Contents}
+    {number : ℕ → ℕ}
+    {left : ℕ → ℕ → ℕ}
+    (chooses : Chooses ρ entry number left)
     (order : Order)
     (s : Symbols)
     (m : Machine)
@@ -72,28 +71,56 @@ module _
     next = omega arith
 
     acts-begun :
-        (step : Step) (goal read : List ℕ)
-        → Acts ρ (order .steps + 1) (mostDone (begun order step)) (mostDone (begun order step)) (s .doing) (begins m goal read)
-    acts-begun step goal read =
+        (step : Step) (places : List ℕ) (contents : Contents) (goal read : List ℕ) → Places ρ places contents
+        → Acts
+        ρ
+        (order .steps + 1)
+        (mostDone (begun order step))
+        (mostDone (begun order step))
+        (doing places (s .doing .demands) (s .doing .made))
+        (begins m contents goal read)
+    acts-begun step places contents goal read p =
         record {
           steps = ap suc (h .acts .steps) ∙ sym next;
-          places = h .acts .places;
+          places = p;
           demands = table-more _ (omega (arith, h .short)) (h .acts .demands);
+          demands-named = h .acts .demands-named;
           made = table-more _ (omega (arith, h .short)) (h .acts .made);
           equalities = h .acts .equalities;
           subterms = h .acts .subterms;
         }
 
-    acts-step :
-        (step : Step)
-        → Acts ρ (order .steps + 1) (mostDone (begun order step)) (mostDone (begun order step)) (s .doing) (stepped m step)
-    acts-step (Head k v) = acts-begun (Head k v) (m .goal) (m .read)
-    acts-step (HeadDeep v) = acts-begun (HeadDeep v) (m .goal) (m .read)
-    acts-step (Goal k v) = acts-begun (Goal k v) _ (m .read)
-    acts-step (GoalDeep v) = acts-begun (GoalDeep v) (m .goal) (m .read)
-    acts-step Call = acts-begun Call [] _
+    named-begun :
+        (step : Step) → judged order (Begins step) .refusal ≡ accepted → kindOf step ≤ headStep
+        → AllNamed (leftAt (order .steps + 1) (s .doing .places) step)
+    named-begun (Head k v) good e = h .named (head-goes-on order (Head k v) good refl)
+    named-begun (HeadDeep v) good e = h .named (head-goes-on order (HeadDeep v) good refl)
+    named-begun (Goal k v) good e = absurd (omega arith)
+    named-begun (GoalDeep v) good e = absurd (omega arith)
+    named-begun Call good e = absurd (omega arith)
 
     module _ (bounded : order .steps + 1 ≤ steps) where
+      leaves : (r : ℕ) → isRegister r ≡ true → left (suc (m .steps)) r ≡ ρ (leftName (order .steps + 1) r)
+      leaves r fit =
+          let same = ap suc (h .acts .steps) ∙ sym next in
+          ap (λ (call : ℕ). left call r) same ∙ chooses .leaves (order .steps + 1) r (omega arith) bounded fit
+
+      acts-step :
+          (step : Step)
+          → Acts
+          ρ
+          (order .steps + 1)
+          (mostDone (begun order step))
+          (mostDone (begun order step))
+          (doing (leftAt (order .steps + 1) (s .doing .places) step) (s .doing .demands) (s .doing .made))
+          (stepped left m step)
+      acts-step (Head k v) = acts-begun (Head k v) _ _ (m .goal) (m .read) (h .acts .places)
+      acts-step (HeadDeep v) = acts-begun (HeadDeep v) _ _ (m .goal) (m .read) (h .acts .places)
+      acts-step (Goal k v) = acts-begun (Goal k v) _ _ _ (m .read) (h .acts .places)
+      acts-step (GoalDeep v) = acts-begun (GoalDeep v) _ _ (m .goal) (m .read) (h .acts .places)
+      acts-step Call =
+          acts-begun Call _ _ [] _ (places-spoilt ρ (s .doing .places) (m .contents) (h .acts .places) (order .steps + 1) (left (suc (m .steps))) leaves)
+
       reads-step :
           (step : Step) → fits (Begins step) ≡ true
           → Reads
@@ -101,10 +128,10 @@ module _
           (order .steps + 1)
           (wanted (order .steps + 1) (s .wanting) step .goal)
           (claimedAt (s .doing .places) (s .claims) (s .wanting .goal) step)
-          (stepped m step .goal)
-          (wants (entryOf ρ) (numberOf ρ) w step .goal)
-          (stepped m step .read)
-          (wants (entryOf ρ) (numberOf ρ) w step .arguments)
+          (stepped left m step .goal)
+          (wants entry number w step .goal)
+          (stepped left m step .read)
+          (wants entry number w step .arguments)
       reads-step (Head k v) f = reads-same ρ _ _ next bounded _ _ _ _ _ _ (h .reads)
       reads-step (HeadDeep v) f = reads-same ρ _ _ next bounded _ _ _ _ _ _ (h .reads)
       reads-step (Goal k v) f =
@@ -112,23 +139,25 @@ module _
           let e = register-exactly k .1 (a .0, a .1) in
           let o = stepName (order .steps + 1) in
           let low : o < noName = omega arith in
-          let n = ρ (stepName (suc (w .steps))) in
-          let same : n ≡ ρ o = ap (λ (i : ℕ). ρ (stepName i)) (ap suc (h .asks .steps) ∙ sym next) in
+          let n = number (suc (w .steps)) in
+          let same = offers chooses (order .steps) (order .steps + 1) next bounded (s .wanting) w (h .asks) in
           let value = value-stands ρ o n low same (getD (s .wanting .values) v 0) (w .values v) (h .asks .values .stands v (a .2)) in
-          reads-argument ρ _ _ next bounded _ _ _ _ _ _ (h .reads) k _ _ e (omega arith) (value .0) (value .1)
+          reads-argument ρ _ _ next bounded _ _ _ _ _ _ (h .reads) k _ _ e (value .1)
       reads-step (GoalDeep v) f = reads-same ρ _ _ next bounded _ _ _ _ _ _ (h .reads)
       reads-step Call f = reads-call ρ _ _ next bounded _ _ _ _ _ _ (h .reads) (s .doing .places) (m .contents) (h .acts .places)
 
       begins-stands :
-          (step : Step) → fits (Begins step) ≡ true
-          → Standing ρ (begun order step) (carried (order .steps + 1) s (Begins step)) (stepped m step) (wants (entryOf ρ) (numberOf ρ) w step)
-      begins-stands step f =
+          (step : Step) → judged order (Begins step) .refusal ≡ accepted
+          → Standing ρ (begun order step) (carried (order .steps + 1) s (Begins step)) (stepped left m step) (wants entry number w step)
+      begins-stands step good =
+          let fit = line-fits order (Begins step) good in
           record {
             few = bounded;
             short = omega arith;
             acts = acts-step step;
-            asks = wants-stands ρ (order .steps) (order .steps + 1) next bounded (s .wanting) w (h .asks) step f;
-            reads = reads-step step f;
+            named = named-begun step good;
+            asks = wants-stands chooses (order .steps) (order .steps + 1) next bounded (s .wanting) w (h .asks) step fit;
+            reads = reads-step step fit;
           }
 
     -- ---- An instruction
@@ -148,69 +177,71 @@ module _
     reads-does n (UnifyValue place) = h .reads
     reads-does n (UnifyLocalValue place) = h .reads
 
+    own-number : number (m .steps) ≡ ρ (stepName (order .steps))
+    own-number = ap number (h .acts .steps) ∙ chooses .numbers (order .steps) (h .few)
+
     line-does :
-        (instruction : Instruction) → order .instructions < instructions → fits (Does instruction) ≡ true
-        → Standing ρ (done order instruction) (carried (order .steps) s (Does instruction)) (does (ρ (stepName (order .steps))) m instruction) w
-    line-does instruction under f =
+        (instruction : Instruction) → judged order (Does instruction) .refusal ≡ accepted
+        → Standing ρ (done order instruction) (carried (order .steps) s (Does instruction)) (does (number (m .steps)) m instruction) w
+    line-does instruction good =
+        let under = does-few order instruction good in
+        let fit = line-fits order (Does instruction) good in
         let room : 2 * mostDone order + 2 ≤ pairCells = omega (arith, h .few) in
-        let acts-now = does-stands ρ (order .steps) (mostDone order) (s .doing) m (h .acts) (h .few) room instruction f in
+        let in-head : isGetValueOrUnify instruction ≡ true → AllNamed (s .doing .places) =
+        λ demands. h .named (omega (arith, demands-in-head order instruction good demands)) in
+        let acts-now = does-stands ρ (order .steps) (mostDone order) (s .doing) m (h .acts) (h .few) room instruction fit in-head in
+        rw own-number
         record {
           few = h .few;
           short = omega arith;
           acts = acts-more ρ _ _ _ _ _ acts-now _ (omega arith) (omega arith);
+          named = λ e. does-named ρ (order .steps) (mostDone order) (s .doing) m (h .acts) (h .few) room (h .named e) instruction fit;
           asks = h .asks;
           reads = reads-does _ instruction;
         }
 
--- ---- A line that is accepted
+-- ---- A line that is accepted, and lines
 
-following-stands :
-    (ρ : ℕ → ℕ) (order : Order) (s : Symbols) (m : Machine) (w : Wanted) (line : CheckLine)
-    → judged order line .refusal ≡ accepted → Standing ρ order s m w
-    → Standing
-    ρ
-    (following order line)
-    (carried (following order line .steps) s line)
-    (machineCarried (numberOf ρ) m line)
-    (wantedBy (entryOf ρ) (numberOf ρ) w line)
-following-stands ρ order s m w (Begins step) good h =
-    let few = begins-few order step good in
-    begins-stands ρ order s m w h (omega arith) step (line-fits order (Begins step) good)
-following-stands ρ order s m w (Does instruction) good h =
-    let stands = line-does ρ order s m w h instruction (does-few order instruction good) (line-fits order (Does instruction) good) in
-    subst
-    (λ (n : ℕ). Standing ρ (done order instruction) (carried (order .steps) s (Does instruction)) (does (ρ (stepName n)) m instruction) w)
-    (sym (h .acts .steps))
-    stands
+module _ {ρ : ℕ → ℕ} {entry : Contents} {number : ℕ → ℕ} {left : ℕ → ℕ → ℕ} (chooses : Chooses ρ entry number left) where
+  following-stands :
+      (order : Order) (s : Symbols) (m : Machine) (w : Wanted) (line : CheckLine)
+      → judged order line .refusal ≡ accepted → Standing ρ order s m w
+      → Standing
+      ρ
+      (following order line)
+      (carried (following order line .steps) s line)
+      (machineCarried number left m line)
+      (wantedBy entry number w line)
+  following-stands order s m w (Begins step) good h =
+      let few = begins-few order step good in
+      begins-stands chooses order s m w h (omega arith) step good
+  following-stands order s m w (Does instruction) good h = line-does chooses order s m w h instruction good
 
-line-stands :
-    (ρ : ℕ → ℕ) (order : Order) (s : Symbols) (m : Machine) (w : Wanted) (line : CheckLine)
-    → judged order line .refusal ≡ accepted → Standing ρ order s m w
-    → Standing
-    ρ
-    (judged order line .order)
-    (carried (judged order line .order .steps) s line)
-    (machineCarried (numberOf ρ) m line)
-    (wantedBy (entryOf ρ) (numberOf ρ) w line)
-line-stands ρ order s m w line good h =
-    subst
-    (λ (o : Order). Standing ρ o (carried (o .steps) s line) (machineCarried (numberOf ρ) m line) (wantedBy (entryOf ρ) (numberOf ρ) w line))
-    (sym (accepted-order order line good))
-    (following-stands ρ order s m w line good h)
+  line-stands :
+      (order : Order) (s : Symbols) (m : Machine) (w : Wanted) (line : CheckLine)
+      → judged order line .refusal ≡ accepted → Standing ρ order s m w
+      → Standing
+      ρ
+      (judged order line .order)
+      (carried (judged order line .order .steps) s line)
+      (machineCarried number left m line)
+      (wantedBy entry number w line)
+  line-stands order s m w line good h =
+      subst
+      (λ (o : Order). Standing ρ o (carried (o .steps) s line) (machineCarried number left m line) (wantedBy entry number w line))
+      (sym (accepted-order order line good))
+      (following-stands order s m w line good h)
 
--- ---- Lines
-
-lines-stand :
-    (ρ : ℕ → ℕ) (order : Order) (s : Symbols) (m : Machine) (w : Wanted) (lines : List CheckLine)
-    → allAccepted order lines ≡ true → Standing ρ order s m w
-    → (last : Order)
-    × Standing ρ last (carriedAll order s lines) (runFrom (numberOf ρ) m lines) (wantedFrom (entryOf ρ) (numberOf ρ) w lines)
-unfolding allAccepted carriedAll runFrom wantedFrom
-lines-stand ρ order s m w [] e h = (order, h)
-lines-stand ρ order s m w (line ∷ lines) e h =
-    let b = both-true (eqb (judged order line .refusal) accepted) (allAccepted (judged order line .order) lines) e in
-    let good = eqb-true (judged order line .refusal) accepted (b .0) in
-    lines-stand ρ (judged order line .order) _ _ _ lines (b .1) (line-stands ρ order s m w line good h)
+  lines-stand :
+      (order : Order) (s : Symbols) (m : Machine) (w : Wanted) (lines : List CheckLine)
+      → allAccepted order lines ≡ true → Standing ρ order s m w
+      → (last : Order) × Standing ρ last (carriedAll order s lines) (runFrom number left m lines) (wantedFrom entry number w lines)
+  unfolding allAccepted carriedAll runFrom wantedFrom
+  lines-stand order s m w [] e h = (order, h)
+  lines-stand order s m w (line ∷ lines) e h =
+      let b = both-true (eqb (judged order line .refusal) accepted) (allAccepted (judged order line .order) lines) e in
+      let good = eqb-true (judged order line .refusal) accepted (b .0) in
+      lines-stand (judged order line .order) _ _ _ lines (b .1) (line-stands order s m w line good h)
 
 -- ---- Before the first line
 
@@ -218,54 +249,60 @@ lines-stand ρ order s m w (line ∷ lines) e h =
 held-fresh : (place : RegType) → placeName place < placeCells → getD (numbersFrom 0 placeCells) (placeName place) 0 ≡ placeName place
 held-fresh place h = getD-numbers 0 placeCells (placeName place) 0 h ∙ omega arith
 
-fresh-places : (ρ : ℕ → ℕ) → Places ρ (numbersFrom 0 placeCells) (entryOf ρ)
-fresh-places ρ =
-    record {
-      size = length-numbers 0 placeCells;
-      holds = λ place h. sym (ap ρ (held-fresh place (place-name place h)));
-      names = λ place h. omega (arith, held-fresh place (place-name place h), place-name place h);
-    }
+fresh-named : AllNamed (numbersFrom 0 placeCells)
+fresh-named place h = omega (arith, held-fresh place (place-name place h), place-name place h)
 
 none-listed : {A : Type 0} (f : ℕ × ℕ → A) → _≡_ {A = List A} [] (map f (listed noPairs))
 unfolding listed pairsOf
 none-listed f = refl
 
-fresh-stands : (ρ : ℕ → ℕ) → Standing ρ freshOrder freshSymbols (atEntry (entryOf ρ)) nothingWanted
-unfolding listed pairsOf
-fresh-stands ρ =
-    record {
-      few = omega arith;
-      short = omega arith;
-      acts =
-          record {
-            steps = refl;
-            places = fresh-places ρ;
-            demands = table-fresh;
-            made = table-fresh;
-            equalities = none-listed (both ρ);
-            subterms = none-listed (named ρ);
-          };
-      asks =
-          record {
-            steps = refl;
-            values = record { size = length-replicate {A = ℕ} variables noName; stands = λ v h. getD-replicate {A = ℕ} variables v noName 0 h };
-            wants = table-fresh;
-            due = table-fresh;
-            equalities = none-listed (both ρ);
-            subterms = none-listed (named ρ);
-          };
-      reads =
-          record {
-            goal-table = table-fresh;
-            claims-table = table-fresh;
-            few = omega arith;
-            fit = tt;
-            goal-registers = none-listed register;
-            goal-names = none-listed (second ρ);
-            claims-read = none-listed (first ρ);
-            claims-wanted = none-listed (second ρ);
-          };
-    }
+module _ {ρ : ℕ → ℕ} {entry : Contents} {number : ℕ → ℕ} {left : ℕ → ℕ → ℕ} (chooses : Chooses ρ entry number left) where
+  fresh-places : Places ρ (numbersFrom 0 placeCells) entry
+  fresh-places =
+      record {
+        size = length-numbers 0 placeCells;
+        holds = λ place h. chooses .entries place h ∙ sym (ap ρ (held-fresh place (place-name place h)));
+      }
+
+  fresh-stands : Standing ρ freshOrder freshSymbols (atEntry entry) nothingWanted
+  unfolding listed pairsOf inNames
+  fresh-stands =
+      record {
+        few = omega arith;
+        short = omega arith;
+        acts =
+            record {
+              steps = refl;
+              places = fresh-places;
+              demands = table-fresh;
+              demands-named = refl;
+              made = table-fresh;
+              equalities = none-listed (both ρ);
+              subterms = none-listed (named ρ);
+            };
+        named = λ e. fresh-named;
+        asks =
+            record {
+              steps = refl;
+              values = record { size = length-replicate {A = ℕ} variables noName; stands = λ v h. getD-replicate {A = ℕ} variables v noName 0 h };
+              wants = table-fresh;
+              wants-named = refl;
+              due = table-fresh;
+              equalities = none-listed (both ρ);
+              subterms = none-listed (named ρ);
+            };
+        reads =
+            record {
+              goal-table = table-fresh;
+              claims-table = table-fresh;
+              few = omega arith;
+              fit = tt;
+              goal-registers = none-listed register;
+              goal-names = none-listed (second ρ);
+              claims-read = none-listed (first ρ);
+              claims-wanted = none-listed (second ρ);
+            };
+      }
 
 -- ---- A sheet whose lines are all accepted
 
@@ -278,27 +315,28 @@ pub record Stands (ρ : ℕ → ℕ) (s : Symbols) (m : Machine) (w : Wanted) : 
   pub read : m .read ≡ map (first ρ) (listed (s .claims))
   pub arguments : w .arguments ≡ map (second ρ) (listed (s .claims))
 
--- no table is ever full, and all that they list are names
+-- no table is ever full, and equalities are about names alone
 pub record Bounded (s : Symbols) : Type 0 where
   pub demands : Table (instructions * (steps + 1)) (s .doing .demands)
+  pub demands-named : inNames (listed (s .doing .demands)) ≡ true
   pub made : Table (instructions * (steps + 1)) (s .doing .made)
   pub wants : Table steps (s .wanting .wants)
+  pub wants-named : inNames (listed (s .wanting .wants)) ≡ true
   pub due : Table steps (s .wanting .due)
   pub claims : Table steps (s .claims)
 
 module _ (lines : List CheckLine) (good : allAccepted freshOrder lines ≡ true) where
   at-end :
-      (ρ : ℕ → ℕ)
-      → (last : Order)
-      × Standing ρ last (symbolsOf lines) (run (entryOf ρ) (numberOf ρ) lines) (wantedOf (entryOf ρ) (numberOf ρ) lines)
+      {ρ : ℕ → ℕ} {entry : Contents} {number : ℕ → ℕ} {left : ℕ → ℕ → ℕ} → Chooses ρ entry number left
+      → (last : Order) × Standing ρ last (symbolsOf lines) (run entry number left lines) (wantedOf entry number lines)
   unfolding run wantedOf
-  at-end ρ = lines-stand ρ freshOrder freshSymbols (atEntry (entryOf ρ)) nothingWanted lines good (fresh-stands ρ)
+  at-end chooses = lines-stand chooses freshOrder freshSymbols (atEntry _) nothingWanted lines good (fresh-stands chooses)
 
   pub sheet-stands :
-      (ρ : ℕ → ℕ)
-      → Stands ρ (symbolsOf lines) (run (entryOf ρ) (numberOf ρ) lines) (wantedOf (entryOf ρ) (numberOf ρ) lines)
-  sheet-stands ρ =
-      let h = at-end ρ .1 in
+      {ρ : ℕ → ℕ} {entry : Contents} {number : ℕ → ℕ} {left : ℕ → ℕ → ℕ} → Chooses ρ entry number left
+      → Stands ρ (symbolsOf lines) (run entry number left lines) (wantedOf entry number lines)
+  sheet-stands chooses =
+      let h = at-end chooses .1 in
       record {
         demands = h .acts .equalities;
         wants = h .asks .equalities;
@@ -310,11 +348,13 @@ module _ (lines : List CheckLine) (good : allAccepted freshOrder lines ≡ true)
 
   pub sheet-bounded : Bounded (symbolsOf lines)
   sheet-bounded =
-      let h = at-end (λ n. n) .1 in
+      let h = at-end (chooses-of (λ n. n)) .1 in
       record {
         demands = table-more _ (omega (arith, h .few, h .short)) (h .acts .demands);
+        demands-named = h .acts .demands-named;
         made = table-more _ (omega (arith, h .few, h .short)) (h .acts .made);
         wants = table-more _ (h .few) (h .asks .wants);
+        wants-named = h .asks .wants-named;
         due = table-more _ (h .few) (h .asks .due);
         claims = table-more _ (h .few) (h .reads .claims-table);
       }

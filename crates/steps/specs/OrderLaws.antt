@@ -1,7 +1,7 @@
 -- Laws of judged lines: what an accepted line has passed, and what the order says after it.
 use Prim.Native.Nat.{ℕ, _≤_, _<_}
-use mathlib.Core.Path.{_≡_, refl}
-use mathlib.Core.Bool.{Bool, true, false, _&&_}
+use mathlib.Core.Path.{_≡_, refl, sym, _∙_}
+use mathlib.Core.Bool.{Bool, true, false, _&&_, _||_, false≢true}
 use native.Mathlib.Omega.{arith}
 use lib.Dec.{eqb, ltb}
 use borrow.Author.Tests.{leb-false, ltb-true, eqb-true, eq-eqb}
@@ -12,11 +12,12 @@ use Rattle.sizes.specs.Sizes.{registers, variables, steps, instructions, isRegi
 use Rattle.sizes.specs.SizesLaws.{register-exactly}
 use Rattle.instructions.specs.declared.Instruction.{Instruction}
 use Rattle.steps.specs.declared.Step.{Step}
+use Rattle.steps.specs.declared.Step.the-variants.{Head, HeadDeep, Goal, GoalDeep, Call}
 use Rattle.steps.specs.declared.CheckLine.{CheckLine}
 use Rattle.steps.specs.declared.CheckLine.the-variants.{Begins, Does}
 use Rattle.steps.specs.declared.Order.{Order}
-use Rattle.steps.specs.Steps.{fits, firstOf}
-use Rattle.steps.specs.Order.{breaksOrder, overfills, refusalBy, following, judgedAs, judged}
+use Rattle.steps.specs.Steps.{isPutOrSet, isGetValueOrUnify, fits, firstOf}
+use Rattle.steps.specs.Order.{headStep, goalStep, kindOf, misplacedUnder, breaksOrder, overfills, refusalBy, following, judgedAs, judged}
 
 -- ---- What an accepted line has passed
 
@@ -37,6 +38,9 @@ module _ (order : Order) (line : CheckLine) (good : judged order line .refusal �
   passed : (breaksOrder order line ≡ false) × (fits line ≡ true) × (overfills order line ≡ false)
   unfolding judged judgedAs refusalBy
   passed = none-refuses (breaksOrder order line) (fits line) (overfills order line) good
+
+  pub line-in-order : breaksOrder order line ≡ false
+  line-in-order = passed .0
 
   pub line-fits : fits line ≡ true
   line-fits = passed .1
@@ -70,6 +74,36 @@ steps-kept order line h =
     (λ t. eqb (refusalBy order line) accepted ≡ t → (if t then following order line else order) .steps ≤ steps)
     [ true ↦ λ e. following-few order line (eqb-true (refusalBy order line) accepted e) h | false ↦ λ e. h ]
     refl
+
+-- ---- The head, before any goal step or `call`
+
+pub head-goes-on :
+    (order : Order) (step : Step) → judged order (Begins step) .refusal ≡ accepted → kindOf step ≡ headStep → order .kind ≤ headStep
+head-goes-on order (Head k v) good e = omega (arith, leb-false goalStep (order .kind) (line-in-order order (Begins (Head k v)) good))
+head-goes-on order (HeadDeep v) good e = omega (arith, leb-false goalStep (order .kind) (line-in-order order (Begins (HeadDeep v)) good))
+head-goes-on order (Goal k v) good e = absurd (omega arith)
+head-goes-on order (GoalDeep v) good e = absurd (omega arith)
+head-goes-on order Call good e = absurd (omega arith)
+
+neither-first : (a b : Bool) → (a || b) ≡ false → a ≡ false
+neither-first true b h = absurd (false≢true (sym h))
+neither-first false b h = refl
+
+under-head :
+    (inHead inGoal other demands : Bool) → demands ≡ true → (if inHead then other else if inGoal then demands else true) ≡ false
+    → inHead ≡ true
+under-head true inGoal other demands e h = refl
+under-head false true other demands e h = absurd (false≢true (sym h ∙ e))
+under-head false false other demands e h = absurd (false≢true (sym h))
+
+-- equalities are demanded there alone
+pub demands-in-head :
+    (order : Order) (instruction : Instruction) → judged order (Does instruction) .refusal ≡ accepted
+    → isGetValueOrUnify instruction ≡ true → order .kind ≡ headStep
+unfolding misplacedUnder
+demands-in-head order instruction good demands =
+    let placed = neither-first (misplacedUnder (order .kind) instruction) _ (line-in-order order (Does instruction) good) in
+    eqb-true (order .kind) headStep (under-head _ (eqb (order .kind) goalStep) (isPutOrSet instruction) _ demands placed)
 
 -- ---- The sizes as plain facts
 

@@ -1,4 +1,5 @@
--- Names: a number for each thing that can be chosen, the entry content of a place and the number of a step.
+-- Names: a number for each thing that can be chosen, the entry content of a place, the number of a step, and what a call leaves
+-- in a register.
 use Prim.Native.Nat.{ℕ, _+_, _*_}
 use Rattle.sizes.specs.Sizes.{registers, variables, steps, instructions}
 use Rattle.registers.specs.declared.RegType.{RegType}
@@ -14,6 +15,10 @@ stepName step = 3 * step + 2
 -- cells for the contents of the places, each at its name
 abbrev pub placeCells : ℕ
 placeCells = 3 * (registers + 1)
+
+-- a register's own name, moved up by all the places' cells for each step line up to the call: at entry it is as after a call 0
+abbrev pub leftName : ℕ → ℕ → ℕ
+leftName call r = placeCells * call + placeName (Temp r)
 
 -- in the place of a variable's value that no step has fixed
 abbrev pub noName : ℕ

@@ -1,6 +1,6 @@
 -- The run of a check sheet on names: each place and each step's number stands for itself, and everything that the machine
 -- ever holds is a name. Both sides of the sheet are carried along, line by line.
-use Prim.Native.Nat.{ℕ, _+_}
+use Prim.Native.Nat.{ℕ, zero, suc, _+_}
 use mathlib.Core.Bool.{Bool, true, false, _&&_}
 use mathlib.Core.List.{List, [], _∷_}
 use lib.Dec.{eqb, ltb}
@@ -8,7 +8,7 @@ use lib.ListN.{getD, set, take, replicate}
 use Rattle.notation.specs.Choice.{if_then_else_}
 use Rattle.notation.specs.Lists.{numbersFrom}
 use Rattle.refusals.specs.Refusals.{accepted, refusedFull}
-use Rattle.sizes.specs.Sizes.{variables, steps}
+use Rattle.sizes.specs.Sizes.{registers, variables, steps}
 use Rattle.registers.specs.declared.RegType.{RegType}
 use Rattle.registers.specs.declared.RegType.the-variants.{Temp, Perm}
 use Rattle.instructions.specs.declared.Instruction.{Instruction}
@@ -21,7 +21,7 @@ use Rattle.steps.specs.declared.Order.{Order}
 use Rattle.steps.specs.declared.Judged.{Judged}
 use Rattle.steps.specs.Order.{judged}
 use Rattle.classes.specs.Classes.{pairsOf}
-use Rattle.symbolic.specs.Names.{placeName, stepName, placeCells, noName, pairCells}
+use Rattle.symbolic.specs.Names.{placeName, stepName, placeCells, leftName, noName, pairCells}
 
 -- ---- Pairs of numbers in a table, two cells each, and how many cells count
 
@@ -74,6 +74,19 @@ did step d (SetLocalValue place) = doing (d .places) (d .demands) (pushed (d .ma
 did step d (UnifyVariable place) = doing (put (d .places) place (stepName step)) (d .demands) (pushed (d .made) step (stepName step))
 did step d (UnifyValue place) = doing (d .places) (pushed (d .demands) (held (d .places) place) (stepName step)) (pushed (d .made) step (stepName step))
 did step d (UnifyLocalValue place) = doing (d .places) (pushed (d .demands) (held (d .places) place) (stepName step)) (pushed (d .made) step (stepName step))
+
+-- in each register up to one, a name of its own is left by a call
+unfoldable pub spoiltUpTo : ℕ → ℕ → List ℕ → List ℕ
+spoiltUpTo call zero places = places
+spoiltUpTo call (suc r) places = put (spoiltUpTo call r places) (Temp (suc r)) (leftName call (suc r))
+
+-- `call` spoils all of them
+abbrev pub leftAt : ℕ → List ℕ → Step → List ℕ
+leftAt step places (Head k v) = places
+leftAt step places (HeadDeep v) = places
+leftAt step places (Goal k v) = places
+leftAt step places (GoalDeep v) = places
+leftAt step places Call = spoiltUpTo step registers places
 
 -- ---- What the steps want
 
@@ -142,7 +155,7 @@ symbols doing wanting claims = record { doing = doing; wanting = wanting; claims
 abbrev pub carried : ℕ → Symbols → CheckLine → Symbols
 carried step s (Begins begins) =
     symbols
-    (s .doing)
+    (doing (leftAt step (s .doing .places) begins) (s .doing .demands) (s .doing .made))
     (wanted step (s .wanting) begins)
     (claimedAt (s .doing .places) (s .claims) (s .wanting .goal) begins)
 carried step s (Does instruction) = symbols (did step (s .doing) instruction) (s .wanting) (s .claims)

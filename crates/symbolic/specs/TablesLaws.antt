@@ -8,7 +8,7 @@ use native.Mathlib.Nat.{add-zero, zero-add}
 use native.Mathlib.Numerals.{add-one}
 use native.Mathlib.Omega.{arith}
 use borrow.Author.Tests.{le-ltb, lt-ltb, eq-eqb, ne-eqb}
-use lib.ListN.{length, getD, set, take, drop, replicate, length-drop}
+use lib.ListN.{length, getD, set, take, drop, replicate, length-drop, length-set}
 use lib.Seq.{drop-cons, set-getD, take-all, take-suc-set}
 use Rattle.notation.specs.Lists.{numbersFrom}
 use Rattle.refusals.specs.Refusals.{accepted, refusedFull}
@@ -25,8 +25,8 @@ use Rattle.steps.specs.Order.{judged}
 use Rattle.steps.specs.OrderLaws.{argument-and-variable, line-fits, steps-kept}
 use Rattle.classes.specs.Classes.{pairsOf}
 use Rattle.classes.specs.ClassesLaws.{pairs-next, pairs-end}
-use Rattle.symbolic.specs.Names.{placeCells, pairCells, noName}
-use Rattle.symbolic.specs.Symbolic.{Pairs, pairs, pushed, listed, held, valueOf, claimed, Symbols, carried, freshSymbols, taking, takenAs, taken}
+use Rattle.symbolic.specs.Names.{placeName, placeCells, leftName, pairCells, noName}
+use Rattle.symbolic.specs.Symbolic.{Pairs, pairs, pushed, listed, doing, held, put, spoiltUpTo, leftAt, Wanting, valueOf, wanted, claimed, claimedAt, Symbols, symbols, carried, freshSymbols, taking, takenAs, taken}
 use Rattle.symbolic.specs.Tables.{symbolsOf, freshCounts}
 
 -- ---- A pair more
@@ -63,6 +63,25 @@ module _ (places arguments : List ℕ) (i : ℕ) where
 pub listed-all : (cells : List ℕ) (count : ℕ) → length cells ≤ count → listed (pairs cells count) ≡ pairsOf cells
 unfolding listed
 listed-all cells count h = ap pairsOf (take-all count cells h)
+
+-- ---- The registers that `call` spoils
+
+module _ (call : ℕ) (places : List ℕ) where
+  pub spoilt-none : places ≡ spoiltUpTo call 0 places
+  unfolding spoiltUpTo
+  spoilt-none = refl
+
+  pub spoilt-more :
+      (r : ℕ) {name : ℕ} {now after : List ℕ} → now ≡ spoiltUpTo call r places → name ≡ leftName call (r + 1)
+      → after ≡ put now (Temp (r + 1)) name → after ≡ spoiltUpTo call (r + 1) places
+  unfolding spoiltUpTo
+  spoilt-more r spoilt named puts = rw (puts, spoilt, named, add-one r)
+
+  pub length-spoilt : (r : ℕ) → length (spoiltUpTo call r places) ≡ length places
+  unfolding spoiltUpTo
+  length-spoilt zero = refl
+  length-spoilt (suc r) =
+      length-set (spoiltUpTo call r places) (placeName (Temp (suc r))) (leftName call (suc r)) ∙ length-spoilt r
 
 -- ---- A variable's value
 
@@ -103,6 +122,16 @@ head-register {k} {v} told fits = argument-and-variable k v (sym (ap stepFits to
 
 pub begins-fits : {line : CheckLine} {begins : Step} → line ≡ Begins begins → fits line ≡ true → stepFits begins ≡ true
 begins-fits told good = sym (ap fits told) ∙ good
+
+-- a step line is carried out where its parts are
+module _ (step : ℕ) (s : Symbols) where
+  pub carried-begins :
+      {line : CheckLine} {begins : Step} {places : List ℕ} {before after : Wanting} {claims : Pairs} → line ≡ Begins begins
+      → claims ≡ claimedAt (s .doing .places) (s .claims) (s .wanting .goal) begins
+      → after ≡ wanted step before begins → before ≡ s .wanting
+      → places ≡ leftAt step (s .doing .places) begins
+      → symbols (doing places (s .doing .demands) (s .doing .made)) after claims ≡ carried step s line
+  carried-begins told claimed wants same left = rw (told, claimed, wants, same, left)
 
 -- what is judged accepted is inside its sizes
 module _ (order : Order) (line : CheckLine) {j : Judged} (judges : j ≡ judged order line) where

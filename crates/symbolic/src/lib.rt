@@ -8,7 +8,7 @@ ghost use Rattle.sizes.specs.Sizes.{registers, steps as stepLines};
 ghost use Rattle.registers.specs.declared.RegType.the-variants.{Temp};
 ghost use Rattle.steps.specs.Steps.{stepFits, fits};
 ghost use Rattle.classes.specs.Classes.{pairsOf};
-ghost use Rattle.symbolic.specs.Names.{placeName, stepName, placeCells};
+ghost use Rattle.symbolic.specs.Names.{placeName, stepName, placeCells, leftName};
 ghost use Rattle.symbolic.specs.Symbolic.{
   pairs,
   pushed,
@@ -16,6 +16,8 @@ ghost use Rattle.symbolic.specs.Symbolic.{
   held,
   put,
   did,
+  spoiltUpTo,
+  leftAt,
   valueOf,
   again,
   wanted,
@@ -115,6 +117,14 @@ fn step_name(step: u32) -> u32
     ensures { λ r. ⌜ r ≡ stepName step ⌝ }
 {
     3 * step + 2
+}
+
+// The name of what a call leaves in a register.
+fn left_name(call: u32, r: u32) -> u32
+    requires { ⌜ (call ≤ stepLines) × (r ≤ registers) ⌝ }
+    ensures { λ n. ⌜ n ≡ leftName call r ⌝ }
+{
+    PLACE_CELLS as u32 * call + 3 * r
 }
 
 // The name that a place holds.
@@ -324,6 +334,32 @@ fn does(
     }
 }
 
+// Puts into each register the name of what a call leaves there.
+fn spoil(places: &mut [u32], call: u32)
+    requires { ⌜ call ≤ stepLines ⌝ }
+    ensures { λ _. ⌜ now (places .exit) ≡ spoiltUpTo call registers (now (places .entry)) ⌝ }
+{
+    let mut r: u32 = 0;
+    while r < LAST_REGISTER {
+        r += 1;
+        put(places, RegType::Temp(r), left_name(call, r));
+    }
+}
+
+// The same at `call`, and nothing at another step.
+fn spoil_at(places: &mut Places, step: u32, begins: Step)
+    requires { ⌜ step ≤ stepLines ⌝ }
+    ensures { λ _. ⌜ now (places .exit) ≡ leftAt step (now (places .entry)) begins ⌝ }
+{
+    match begins {
+        Step::Head(_, _) => {}
+        Step::HeadDeep(_) => {}
+        Step::Goal(_, _) => {}
+        Step::GoalDeep(_) => {}
+        Step::Call => spoil(places, step),
+    }
+}
+
 // ---- What the steps want
 
 // Where a step is not its variable's first, demands that the variable's value is what the step offers.
@@ -513,6 +549,8 @@ fn carry(
             let claimed = claim_at(places, goal, counts.goal, claims, counts.claims, begins);
             let before = wanted_counts(counts.wants, counts.due, counts.goal);
             let after = want(values, wants, due, goal, before, step, begins);
+            // Behind the claims, which are about what the registers hold before.
+            spoil_at(places, step, begins);
             after_step(counts, after, claimed)
         }
         CheckLine::Does(instruction) => {

@@ -102,7 +102,7 @@ verdict-exactly lines good = (
   λ e. right-on-names lines good .1 (decided-right (symbolsOf lines) e),
   λ right. right-decided
       (symbolsOf lines)
-      (sheet-bounded lines good .demands .named)
-      (sheet-bounded lines good .wants .named)
+      (sheet-bounded lines good .demands-named)
+      (sheet-bounded lines good .wants-named)
       (right-on-names lines good .0 right),
 )

@@ -1,6 +1,6 @@
 -- `symbolic::carry`: each kind of line is a case of the definition. Assumes nothing.
 use borrow.Author.Needs.{needs}
-use Rattle.symbolic.specs.TablesLaws.{begins-fits}
+use Rattle.symbolic.specs.TablesLaws.{begins-fits, carried-begins}
 use Rattle.symbolic.proofs.carry.Statement.{statement}
 use Rattle.symbolic.proofs.carry.Tie as tie
 
@@ -16,6 +16,9 @@ wanted-counts-requires c κs = search needs
 want-requires : tie.Need-want-requires
 want-requires c κs = (search needs, begins-fits (c .before .before .before .before .before .before .before .before .before .before .line .given .1) (c .before .before .before .before .before .before .before .before .before .before .before .before .pre .1))
 
+spoil-at-requires : tie.Need-spoil-at-requires
+spoil-at-requires c κs = search needs
+
 after-step-requires : tie.Need-after-step-requires
 after-step-requires c κs = search needs
 
@@ -30,13 +33,15 @@ after-instruction-requires c κs = search needs
 
 returns : tie.Need-returns
 returns c =
-    simp (
-      c .before .before .before .before .before .before .before .before .before .before .before .before .line .given .1,
-      c .after-step .ensures,
-      c .before .want .ensures,
-      c .before .before .before .before .before .before .wanted-counts .ensures,
-      c .before .before .before .before .before .before .before .claim-at .ensures,
-    )
+    rw (c .after-step .ensures)
+    (carried-begins
+    _
+    _
+    (c .before .before .before .before .before .before .before .before .before .before .before .before .before .before .line .given .1)
+    (c .before .before .before .before .before .before .before .before .before .claim-at .ensures)
+    (c .before .before .before .want .ensures)
+    (rw (c .before .before .before .before .before .before .before .before .wanted-counts .ensures))
+    (c .before .spoil-at .ensures))
 
 returns-2 : tie.Need-returns-2
 returns-2 c =
@@ -54,6 +59,7 @@ carry-spec =
     claim-at-requires
     wanted-counts-requires
     want-requires
+    spoil-at-requires
     after-step-requires
     enum-known-line-2
     does-requires
