@@ -1,3 +1,4 @@
 pub mod Machine
 pub mod Wanted
 pub mod Right
+pub mod Examples
