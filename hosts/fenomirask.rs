@@ -228,7 +228,8 @@ pub fn events(sheet: &[u8], out: &mut [u8]) -> Result<usize, Refused> {
     })
 }
 
-/// The answer to a check sheet, `accepted` or `rejected` and an LF, stands at the start of `out`, as with `events`.
+/// The answer to a check sheet, `accepted` or `rejected` and an LF, stands at the start of `out`, as with `events`. A
+/// `call` leaves an arbitrary number in every register; slots keep what they hold.
 pub fn check(sheet: &[u8], out: &mut [u8]) -> Result<usize, Refused> {
     // SAFETY: as in `events`.
     answered(unsafe {

@@ -193,6 +193,42 @@ static void hold_clauses(const Call *whole)
     HOLD(wrong != 0 || whole->number == written);
 }
 
+/* The register that a check sheet that is answered names last as `x` and a number; 1 where there is none. */
+static unsigned long last_register(const Call *whole)
+{
+    size_t at = whole->bytes;
+    while (at > 0 && whole->sheet[at - 1] != 'x')
+        at--;
+    return at == 0 ? 1 : strtoul((const char *)whole->sheet + at, NULL, 10);
+}
+
+/* No answer may come from what a register held before a call: it stays where behind each call another register is copied
+ * over that one, under the next step, unless that has as many instructions as it may. */
+static void hold_spoilt(const Call *whole)
+{
+    enum { CALL = sizeof "call\n" - 1, COPY = sizeof "get_variable\tx63\t63\n" };
+    unsigned long lost = last_register(whole), other = lost % (FENOMIRASK_REGISTERS - 1) + 1;
+    uint8_t *sheet = malloc(whole->bytes + whole->lines * COPY);
+    Call copied = {.function = CHECK, .sheet = sheet};
+    int calls = 0;
+    for (size_t at = 0, bytes; at < whole->bytes; at += bytes) {
+        const uint8_t *line = whole->sheet + at;
+        bytes = (size_t)((const uint8_t *)memchr(line, '\n', whole->bytes - at) + 1 - line);
+        memcpy(sheet + copied.bytes, line, bytes);
+        copied.bytes += bytes;
+        int behind_call = calls;
+        calls = bytes == CALL && memcmp(line, "call\n", CALL) == 0;
+        if (behind_call && !calls)
+            copied.bytes += (size_t)sprintf((char *)sheet + copied.bytes, "get_variable\tx%lu\t%lu\n", lost, other);
+    }
+    size_t room = most_room(&copied);
+    copied = answered(copied, 0, room, ONE_FILL);
+    HOLD(FENOMIRASK_REFUSED(copied.number) ? FENOMIRASK_REFUSAL(copied.number) == FENOMIRASK_FULL
+                                           : memcmp(copied.out, whole->out, FENOMIRASK_CHECK_ROOM) == 0);
+    free(copied.out);
+    free(sheet);
+}
+
 int LLVMFuzzerTestOneInput(const uint8_t *input, size_t bytes)
 {
     if (bytes < HEAD_BYTES)
@@ -205,8 +241,10 @@ int LLVMFuzzerTestOneInput(const uint8_t *input, size_t bytes)
         last--;
     if (!FENOMIRASK_REFUSED(call.number) && call.function == EVENTS)
         HOLD(memcmp(call.out + last, "end\t", 4) == 0);
-    if (!FENOMIRASK_REFUSED(call.number) && call.function == CHECK)
+    if (!FENOMIRASK_REFUSED(call.number) && call.function == CHECK) {
         HOLD(call.number == 9 && (memcmp(call.out, "accepted\n", 9) == 0 || memcmp(call.out, "rejected\n", 9) == 0));
+        hold_spoilt(&call);
+    }
     if (FUNCTION == LINE && call.bytes <= FENOMIRASK_SHEET_BYTES)
         hold_lines(&call, room);
     if (FUNCTION == BUNDLE)

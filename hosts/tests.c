@@ -237,10 +237,68 @@ static void whole_sheets(void)
     expect_refusal("sheet 10 without its last LF", check, tenth, strlen(tenth) - 1, 3, FENOMIRASK_UNKNOWN_FORM);
     expect_refusal("a goal step with no call", check, uncalled, strlen(uncalled), 2, FENOMIRASK_FORBIDDEN_ORDER);
     bytes = repeat(sheet, "call\n", 256);
-    expect_text("256 steps", check, sheet, bytes, ROOM, "accepted\n", FENOMIRASK_CHECK_ROOM);
+    expect_text("256 calls", check, sheet, bytes, ROOM, "accepted\n", FENOMIRASK_CHECK_ROOM);
     bytes = repeat(sheet, "call\n", 13107);
     expect_refusal("65,536 bytes, too many steps", check, sheet, bytes + 1, 257, FENOMIRASK_FULL);
     expect_refusal("65,537 bytes, too many steps", check, sheet, bytes + 2, 0, FENOMIRASK_FULL);
+}
+
+/* ---- What a call leaves */
+
+/* A check sheet that is accepted, or rejected. */
+static void expect_verdict(const char *what, const char *sheet, int accepted)
+{
+    const char *text = accepted ? "accepted\n" : "rejected\n";
+    expect_text(what, &functions[CHECK], sheet, strlen(sheet), ROOM, text, FENOMIRASK_CHECK_ROOM);
+}
+
+static const struct verdict {
+    const char *what, *sheet;
+    int accepted;
+} verdicts[] = {
+    {"sheet 12", "g\t1\t0\nput_variable\tx5\t1\ncall\ng\t1\t0\nput_value\tx5\t1\ncall\n", 0},
+    {"sheet 12 with a slot", "g\t1\t0\nput_variable\ty1\t1\ncall\ng\t1\t0\nput_value\ty1\t1\ncall\n", 1},
+    {"a call with no goal steps", "h\t1\t0\ncall\ng\t1\t0\ncall\n", 0},
+    {"the same without it", "h\t1\t0\ng\t1\t0\ncall\n", 1},
+    {"a subterm read behind a call", "h\t1\t0\ncall\ngd\t0\nset_value\tx1\ncall\n", 0},
+    {"a subterm read before it", "h\t1\t0\ngd\t0\nset_value\tx1\ncall\n", 1},
+    {"a slot from the start", "h\t1\t0\nget_variable\ty1\t1\ncall\ng\t2\t0\nput_value\ty1\t2\ncall\n", 1},
+    {"a slot written behind the call",
+     "h\t1\t0\nget_variable\ty1\t1\ncall\ng\t2\t0\nget_variable\ty1\t1\nput_value\ty1\t2\ncall\n", 0},
+    {"a register written behind the call", "call\ng\t1\t0\nput_variable\tx5\t1\ng\t2\t0\nput_value\tx5\t2\ncall\n", 1},
+};
+
+/* A head step, so many calls that a sheet may have no further step, and a goal. */
+static void expect_behind_calls(const char *what, const char *head, const char *goal, int accepted)
+{
+    char sheet[2048];
+    size_t bytes = (size_t)sprintf(sheet, "%s", head);
+    bytes += repeat((uint8_t *)sheet + bytes, "call\n", 253);
+    sprintf(sheet + bytes, "%scall\n", goal);
+    expect_verdict(what, sheet, accepted);
+}
+
+/* Every register is lost at a call, which reads its arguments before, and every slot is kept. */
+static void spoilt_registers(void)
+{
+    char what[64], sheet[128];
+    size_t i;
+    int k;
+    for (i = 0; i < sizeof verdicts / sizeof verdicts[0]; i++)
+        expect_verdict(verdicts[i].what, verdicts[i].sheet, verdicts[i].accepted);
+    for (k = 1; k < FENOMIRASK_REGISTERS; k++) {
+        snprintf(what, sizeof what, "register %d at a call", k);
+        snprintf(sheet, sizeof sheet, "h\t%d\t0\ng\t%d\t0\ncall\n", k, k);
+        expect_verdict(what, sheet, 1);
+        snprintf(what, sizeof what, "register %d behind a call", k);
+        snprintf(sheet, sizeof sheet, "h\t%d\t0\ng\t%d\t0\ncall\ng\t%d\t0\ncall\n", k, k, k);
+        expect_verdict(what, sheet, 0);
+        snprintf(what, sizeof what, "slot %d behind a call", k);
+        snprintf(sheet, sizeof sheet, "h\t1\t0\nget_variable\ty%d\t1\ncall\ng\t1\t0\nput_value\ty%d\t1\ncall\n", k, k);
+        expect_verdict(what, sheet, 1);
+    }
+    expect_behind_calls("a register behind 253 calls", "h\t1\t0\n", "g\t1\t0\n", 0);
+    expect_behind_calls("a slot behind 253 calls", "h\t1\t0\nget_variable\ty63\t1\n", "g\t1\t0\nput_value\ty63\t1\n", 1);
 }
 
 /* ---- One line at a time */
@@ -1346,6 +1404,7 @@ int main(int words, char **paths)
     rooms = new_area(LARGE_ROOM);
     states = new_area(sizeof(FenomiraskState));
     whole_sheets();
+    spoilt_registers();
     fresh_states();
     fields();
     single_lines();

@@ -176,6 +176,69 @@ fn whole_sheets(counts: &mut Counts) {
     );
 }
 
+/// Check sheets, blanks standing for tabs, and whether they are accepted.
+const VERDICTS: [(&str, bool); 9] = [
+    // Sheet 12, and the same with a slot.
+    (
+        "g 1 0\nput_variable x5 1\ncall\ng 1 0\nput_value x5 1\ncall\n",
+        false,
+    ),
+    (
+        "g 1 0\nput_variable y1 1\ncall\ng 1 0\nput_value y1 1\ncall\n",
+        true,
+    ),
+    // A call with no goal steps, and none.
+    ("h 1 0\ncall\ng 1 0\ncall\n", false),
+    ("h 1 0\ng 1 0\ncall\n", true),
+    // A subterm read behind a call, and before it.
+    ("h 1 0\ncall\ngd 0\nset_value x1\ncall\n", false),
+    ("h 1 0\ngd 0\nset_value x1\ncall\n", true),
+    // A slot, and one that is written behind the call.
+    (
+        "h 1 0\nget_variable y1 1\ncall\ng 2 0\nput_value y1 2\ncall\n",
+        true,
+    ),
+    (
+        "h 1 0\nget_variable y1 1\ncall\ng 2 0\nget_variable y1 1\nput_value y1 2\ncall\n",
+        false,
+    ),
+    // A register that is written behind the call.
+    (
+        "call\ng 1 0\nput_variable x5 1\ng 2 0\nput_value x5 2\ncall\n",
+        true,
+    ),
+];
+
+/// Every register is lost at a call, which reads its arguments before, and every slot is kept.
+fn spoilt_registers(counts: &mut Counts) {
+    let mut expect = |sheet: &str, accepted: bool| {
+        let word = if accepted { "accepted\n" } else { "rejected\n" };
+        let (what, lines) = (sheet.replace('\n', " / "), sheet.replace(' ', "\t"));
+        counts.expect_text(
+            &what,
+            fenomirask::check,
+            lines.as_bytes(),
+            ROOM,
+            word.as_bytes(),
+        );
+    };
+    for (sheet, accepted) in VERDICTS {
+        expect(sheet, accepted);
+    }
+    for k in 1..=63 {
+        expect(&format!("h {k} 0\ng {k} 0\ncall\n"), true);
+        expect(&format!("h {k} 0\ng {k} 0\ncall\ng {k} 0\ncall\n"), false);
+        let (kept, put) = (format!("get_variable y{k} 1"), format!("put_value y{k} 1"));
+        expect(&format!("h 1 0\n{kept}\ncall\ng 1 0\n{put}\ncall\n"), true);
+    }
+    // As many calls as a sheet may have beside a head step and a goal, and as many as it may have.
+    let calls = "call\n".repeat(253);
+    expect(&format!("h 1 0\n{calls}g 1 0\ncall\n"), false);
+    let (kept, put) = ("get_variable y63 1", "put_value y63 1");
+    expect(&format!("h 1 0\n{kept}\n{calls}g 1 0\n{put}\ncall\n"), true);
+    expect(&"call\n".repeat(256), true);
+}
+
 /// The refusals' numbers and words.
 fn refusals(counts: &mut Counts) {
     let mut words: Vec<String> = Refusal::ALL.iter().map(Refusal::to_string).collect();
@@ -1015,6 +1078,7 @@ fn main() {
     let mut counts = Counts::default();
     refusals(&mut counts);
     whole_sheets(&mut counts);
+    spoilt_registers(&mut counts);
     layout(&mut counts);
     let clause = reached(&mut counts);
     spoilt_states(&mut counts, &clause);

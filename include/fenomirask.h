@@ -2,7 +2,7 @@
  *
  * Fenomirask chooses the registers for Prolog clauses, and checks that compiled instructions put each variable where it
  * belongs. What a sheet is, and what each answer means, is in document 01, "Registers for Prolog clauses, and the check
- * sheet"; what a bundle is, in document 02, c.
+ * sheet"; what a call leaves in the registers of a check sheet, in document 02, b, and what a bundle is, in c.
  *
  * Every function takes parts of memory that the host lends for the time of the call, each as a pointer and a count of
  * bytes. The host sees to it that
@@ -106,7 +106,8 @@ enum {
  * Where it is FENOMIRASK_NO_ROOM, the same sheet with more room is answered; answers may be longer than sheets. */
 int64_t fenomirask_events(const uint8_t *sheet, size_t sheet_bytes, uint8_t *out, size_t out_bytes);
 
-/* The answer to a check sheet: `accepted` or `rejected`, and an LF. */
+/* The answer to a check sheet: `accepted` or `rejected`, and an LF. A `call` leaves an arbitrary number in every register,
+ * when it has read its arguments; what is needed behind it has to stand in a slot. */
 int64_t fenomirask_check(const uint8_t *sheet, size_t sheet_bytes, uint8_t *out, size_t out_bytes);
 
 /* The answer to a bundle, in which a line `clause` begins each clause: for each in turn the answer of fenomirask_events to

@@ -219,11 +219,17 @@ def goal_check(steps=STEPS, right=True):
     return text([*lines, "call"])
 
 
+def call_check():
+    """As many calls as there may be, each of which writes all registers."""
+    return text(["call"] * STEPS)
+
+
 def checks():
     """Full check sheets by name."""
     made = {"equalities in the head": head_check, "arguments of goals": goal_check}
     verdicts = {"accepted": True, "rejected": False}
-    return {f"{name}, {verdict}": make(right=verdicts[verdict]) for name, make in made.items() for verdict in verdicts}
+    both = {f"{name}, {verdict}": make(right=verdicts[verdict]) for name, make in made.items() for verdict in verdicts}
+    return both | {"calls, accepted": call_check()}
 
 
 # ---- Sheets among which the dearest is looked for
