@@ -5,7 +5,7 @@ use crate::limits::{REGISTERS, STEPS};
 use crate::names::{Name, at_entry};
 use crate::sheet::Form::{Value, Variable};
 use crate::sheet::Instruction::{Get, Put, Set, Unify};
-use crate::sheet::Place::{self, Register};
+use crate::sheet::Place::{self, Register, Slot};
 use crate::sheet::StepLine::{Call, DeepGoal, DeepHead, Goal, Head};
 use crate::sheet::{Instruction, Sheet, StepLine};
 
@@ -33,69 +33,92 @@ fn same_arguments(equal: &Matrix, found: &[Name], wanted: &[Name]) -> bool {
     pairs.all(|(one, other)| equal.holds(*one, *other))
 }
 
-/// The instructions of a sheet in order, each with its step. A moment is the number of
-/// instructions that are past.
+/// What happens on a sheet in order, each event with its step. A moment is the number of
+/// events that are past.
 struct History {
-    instructions: Vec<(usize, Instruction)>,
-    /// For each step, the moment after its instructions.
+    events: Vec<(usize, Event)>,
+    /// For each step, the moment after its instructions; for a `call`, the one before it.
     ends: Vec<usize>,
 }
 
-/// What an instruction does to a place.
+#[derive(Clone, Copy)]
+enum Event {
+    CarriedOut(Instruction),
+    Called,
+}
+
+/// What an event does to a place.
 enum Written {
     Nothing,
     StepsNumber,
     CopyOf(Place),
+    LeftIn(u64),
 }
 
 impl History {
     fn of(sheet: &Sheet) -> Self {
         let mut history = History {
-            instructions: Vec::new(),
+            events: Vec::new(),
             ends: Vec::new(),
         };
         for (number, step) in sheet.steps.iter().enumerate() {
-            let instructions = step.instructions.iter().map(|i| (number, *i));
-            history.instructions.extend(instructions);
-            history.ends.push(history.instructions.len());
+            let instructions = step.instructions.iter();
+            let events = instructions.map(|i| (number, Event::CarriedOut(*i)));
+            history.events.extend(events);
+            history.ends.push(history.events.len());
+            if step.line == Call {
+                history.events.push((number, Event::Called));
+            }
         }
         history
     }
 
     /// The name of what the place holds at that moment.
     fn content(&self, mut place: Place, moment: usize) -> Name {
-        for (step, instruction) in self.instructions[..moment].iter().rev() {
-            match written(*instruction, place) {
+        for (step, event) in self.events[..moment].iter().rev() {
+            match written(*event, place) {
                 Written::Nothing => {}
                 Written::StepsNumber => return Name::Step(*step),
                 Written::CopyOf(source) => place = source,
+                Written::LeftIn(register) => {
+                    return Name::Left {
+                        call: *step,
+                        register,
+                    };
+                }
             }
         }
         at_entry(place)
     }
 
+    /// The instructions, each with the moment before it and its step.
+    fn instructions(&self) -> impl Iterator<Item = (usize, usize, Instruction)> {
+        let moments = self.events.iter().enumerate();
+        moments.filter_map(|(moment, (step, event))| match event {
+            Event::CarriedOut(instruction) => Some((moment, *step, *instruction)),
+            Event::Called => None,
+        })
+    }
+
     fn demands(&self) -> Vec<Equality> {
-        let demand = |(moment, (step, instruction)): (usize, &(usize, Instruction))| {
+        let demand = |(moment, step, instruction)| {
             let content = |place| self.content(place, moment);
-            match *instruction {
+            match instruction {
                 Get(Value, place, k) => Some((content(place), content(Register(k)))),
-                Unify(Value, place) => Some((content(place), Name::Step(*step))),
+                Unify(Value, place) => Some((content(place), Name::Step(step))),
                 _ => None,
             }
         };
-        let moments = self.instructions.iter().enumerate();
-        moments.filter_map(demand).collect()
+        self.instructions().filter_map(demand).collect()
     }
 
     fn subterms(&self) -> Vec<Subterm> {
-        let subterm =
-            |(moment, (step, instruction)): (usize, &(usize, Instruction))| match *instruction {
-                Set(Value, place) => Some((*step, self.content(place, moment))),
-                Set(Variable, _) | Unify(..) => Some((*step, Name::Step(*step))),
-                Get(..) | Put(..) => None,
-            };
-        let moments = self.instructions.iter().enumerate();
-        moments.filter_map(subterm).collect()
+        let subterm = |(moment, step, instruction)| match instruction {
+            Set(Value, place) => Some((step, self.content(place, moment))),
+            Set(Variable, _) | Unify(..) => Some((step, Name::Step(step))),
+            Get(..) | Put(..) => None,
+        };
+        self.instructions().filter_map(subterm).collect()
     }
 
     /// What each goal step's register holds at the next `call`.
@@ -121,7 +144,15 @@ fn step_lines(sheet: &Sheet) -> impl Iterator<Item = (usize, StepLine)> {
     sheet.steps.iter().map(|step| step.line).enumerate()
 }
 
-fn written(instruction: Instruction, place: Place) -> Written {
+fn written(event: Event, place: Place) -> Written {
+    match (event, place) {
+        (Event::CarriedOut(instruction), _) => written_by(instruction, place),
+        (Event::Called, Register(number)) => Written::LeftIn(number),
+        (Event::Called, Slot(_)) => Written::Nothing,
+    }
+}
+
+fn written_by(instruction: Instruction, place: Place) -> Written {
     match instruction {
         Get(Variable, to, k) if to == place => Written::CopyOf(Register(k)),
         Put(Value, from, k) if Register(k) == place => Written::CopyOf(from),
@@ -173,7 +204,8 @@ fn variable_of(line: StepLine) -> Option<u64> {
     }
 }
 
-/// Every register, slot and step has a row and a column.
+/// Every register and slot at entry and every step has a row and a column. What a `call` left
+/// has none: no head step follows a `call`, so no equality is demanded of it.
 const SIDE: usize = 2 * REGISTERS as usize + STEPS;
 const WORD: usize = u64::BITS as usize;
 const WORDS: usize = SIDE.div_ceil(WORD);
@@ -196,8 +228,9 @@ impl Matrix {
             matrix.add(index, index);
         }
         for (one, other) in equalities {
-            matrix.add(index_of(*one), index_of(*other));
-            matrix.add(index_of(*other), index_of(*one));
+            let index = |name| index_of(name).expect("no equality is demanded after a call");
+            matrix.add(index(*one), index(*other));
+            matrix.add(index(*other), index(*one));
         }
         matrix.saturate()
     }
@@ -235,8 +268,12 @@ impl Matrix {
         self.rows[row][column / WORD] |= 1 << (column % WORD);
     }
 
+    /// A name that has no row is equal to itself alone.
     fn holds(&self, one: Name, other: Name) -> bool {
-        has(&self.rows[index_of(one)], index_of(other))
+        match (index_of(one), index_of(other)) {
+            (Some(row), Some(column)) => has(&self.rows[row], column),
+            _ => one == other,
+        }
     }
 }
 
@@ -257,11 +294,13 @@ fn has(row: &Row, column: usize) -> bool {
     row[column / WORD] >> (column % WORD) & 1 == 1
 }
 
-fn index_of(name: Name) -> usize {
+/// The number of a name's row and column, if it has them.
+fn index_of(name: Name) -> Option<usize> {
     let registers = REGISTERS as usize;
     match name {
-        Name::EntryRegister(number) => number as usize - 1,
-        Name::EntrySlot(number) => registers + number as usize - 1,
-        Name::Step(number) => 2 * registers + number,
+        Name::EntryRegister(number) => Some(number as usize - 1),
+        Name::EntrySlot(number) => Some(registers + number as usize - 1),
+        Name::Step(number) => Some(2 * registers + number),
+        Name::Left { .. } => None,
     }
 }

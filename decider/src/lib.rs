@@ -1,4 +1,4 @@
-//! A second decider of check sheets, written from document 01 alone.
+//! A second decider of check sheets, written from documents 01 and 02 (b) alone.
 //!
 //! A sheet is decided in three ways that share nothing but its reading and its names:
 //! - `all_assignments` runs the machine on every choice of numbers that makes a difference;

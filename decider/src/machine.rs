@@ -12,11 +12,13 @@ use crate::sheet::{Instruction, Place, Sheet};
 /// Room for 1 up to the last register; number 0 stays empty.
 const ROOM: usize = REGISTERS as usize + 1;
 
-/// A place whose entry content has no number is never looked at.
+/// Of all registers, or of all slots. What has no number is never looked at.
+type Contents = [Option<Number>; ROOM];
+
 struct Machine<'numbers> {
     numbers: &'numbers Numbers,
-    registers: [Option<Number>; ROOM],
-    slots: [Option<Number>; ROOM],
+    registers: Contents,
+    slots: Contents,
     outcome: Outcome,
 }
 
@@ -29,21 +31,23 @@ pub fn run(sheet: &Sheet, numbers: &Numbers) -> Outcome {
         }
         match step.line {
             Goal { k, .. } => arguments.push(k),
-            Call => machine.call(std::mem::take(&mut arguments)),
+            Call => machine.call(number, std::mem::take(&mut arguments)),
             _ => {}
         }
     }
     machine.outcome
 }
 
+fn contents(numbers: &Numbers, name: impl Fn(u64) -> Name) -> Contents {
+    std::array::from_fn(|number| numbers.get(name(number as u64)))
+}
+
 impl<'numbers> Machine<'numbers> {
     fn at_entry(numbers: &'numbers Numbers) -> Self {
-        let entry =
-            |name: fn(u64) -> Name| std::array::from_fn(|number| numbers.get(name(number as u64)));
         Machine {
             numbers,
-            registers: entry(Name::EntryRegister),
-            slots: entry(Name::EntrySlot),
+            registers: contents(numbers, Name::EntryRegister),
+            slots: contents(numbers, Name::EntrySlot),
             outcome: Outcome::default(),
         }
     }
@@ -69,11 +73,13 @@ impl<'numbers> Machine<'numbers> {
         }
     }
 
-    /// `call` reads arguments and changes nothing.
-    fn call(&mut self, arguments: Vec<u64>) {
+    /// `call` reads arguments, then leaves a number of its own in every register.
+    fn call(&mut self, call: usize, arguments: Vec<u64>) {
         for k in arguments {
             self.outcome.arguments.push(self.read(Register(k)));
         }
+        let left = |register| Name::Left { call, register };
+        self.registers = contents(self.numbers, left);
     }
 
     fn number_of(&self, step: usize) -> Number {

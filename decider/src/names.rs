@@ -1,10 +1,11 @@
-//! Names of the numbers that a sheet leaves open: what the places hold at entry, and the
-//! one further number of each step.
+//! Names of the numbers that a sheet leaves open: what the places hold at entry, the one
+//! further number of each step, and what each `call` leaves in each register.
 
-use crate::sheet::Form::Value;
+use crate::sheet::Form::{Value, Variable};
 use crate::sheet::Instruction::{Get, Put, Set, Unify};
+use crate::sheet::Place::{self, Register, Slot};
 use crate::sheet::StepLine::{Call, DeepGoal, DeepHead, Goal, Head};
-use crate::sheet::{Instruction, Place, Sheet, Step};
+use crate::sheet::{Instruction, Sheet, Step};
 use std::collections::BTreeSet;
 
 /// One of the numbers that are arbitrary.
@@ -13,29 +14,77 @@ pub enum Name {
     EntryRegister(u64),
     EntrySlot(u64),
     Step(usize),
+    /// What a `call`, told by the number of its step, leaves in a register.
+    Left {
+        call: usize,
+        register: u64,
+    },
 }
 
 pub fn at_entry(place: Place) -> Name {
     match place {
-        Place::Register(number) => Name::EntryRegister(number),
-        Place::Slot(number) => Name::EntrySlot(number),
+        Register(number) => Name::EntryRegister(number),
+        Slot(number) => Name::EntrySlot(number),
     }
 }
 
 /// Every name that could be looked at; some of them may never be.
 pub fn names_that_occur(sheet: &Sheet) -> Vec<Name> {
-    let mut names = BTreeSet::new();
+    let mut occurring = Occurring::default();
     for (number, step) in sheet.steps.iter().enumerate() {
-        if may_use_its_number(step) {
-            names.insert(Name::Step(number));
-        }
-        if let Head { k, .. } | Goal { k, .. } = step.line {
-            names.insert(Name::EntryRegister(k));
-        }
-        let read = step.instructions.iter().flat_map(places_read);
-        names.extend(read.map(at_entry));
+        occurring.pass(number, step);
     }
-    names.into_iter().collect()
+    occurring.names.into_iter().collect()
+}
+
+/// The names that have occurred while the steps are gone through.
+#[derive(Default)]
+struct Occurring {
+    names: BTreeSet<Name>,
+    last_call: Option<usize>,
+    /// The places that no longer hold what they held at entry, or after the last `call`.
+    written: BTreeSet<Place>,
+    /// The registers of this goal's arguments.
+    arguments: Vec<u64>,
+}
+
+impl Occurring {
+    fn pass(&mut self, number: usize, step: &Step) {
+        if may_use_its_number(step) {
+            self.names.insert(Name::Step(number));
+        }
+        for instruction in &step.instructions {
+            for place in places_read(instruction) {
+                self.read(place);
+            }
+            self.written.extend(places_written(instruction));
+        }
+        match step.line {
+            Head { k, .. } => _ = self.names.insert(Name::EntryRegister(k)),
+            Goal { k, .. } => self.arguments.push(k),
+            Call => self.call(number),
+            DeepHead { .. } | DeepGoal { .. } => {}
+        }
+    }
+
+    /// A place that has been written holds a name that occurred before.
+    fn read(&mut self, place: Place) {
+        if self.written.contains(&place) {
+            return;
+        }
+        self.names.insert(match (place, self.last_call) {
+            (Register(register), Some(call)) => Name::Left { call, register },
+            _ => at_entry(place),
+        });
+    }
+
+    fn call(&mut self, number: usize) {
+        for k in std::mem::take(&mut self.arguments) {
+            self.read(Register(k));
+        }
+        self.written.retain(|place| matches!(place, Slot(_)));
+        self.last_call = Some(number);
+    }
 }
 
 fn may_use_its_number(step: &Step) -> bool {
@@ -48,9 +97,18 @@ fn may_use_its_number(step: &Step) -> bool {
 
 fn places_read(instruction: &Instruction) -> Vec<Place> {
     match *instruction {
-        Get(Value, place, k) => vec![place, Place::Register(k)],
-        Get(_, _, k) => vec![Place::Register(k)],
+        Get(Value, place, k) => vec![place, Register(k)],
+        Get(Variable, _, k) => vec![Register(k)],
         Put(Value, place, _) | Set(Value, place) | Unify(Value, place) => vec![place],
-        Put(..) | Set(..) | Unify(..) => vec![],
+        Put(Variable, ..) | Set(Variable, _) | Unify(Variable, _) => vec![],
+    }
+}
+
+fn places_written(instruction: &Instruction) -> Vec<Place> {
+    match *instruction {
+        Get(Variable, place, _) | Set(Variable, place) | Unify(Variable, place) => vec![place],
+        Put(Variable, place, k) => vec![place, Register(k)],
+        Put(Value, _, k) => vec![Register(k)],
+        Get(Value, ..) | Set(Value, _) | Unify(Value, _) => vec![],
     }
 }

@@ -18,7 +18,7 @@ pub enum StepLine {
     Call,
 }
 
-#[derive(Debug, Clone, Copy, PartialEq, Eq)]
+#[derive(Debug, Clone, Copy, PartialEq, Eq, PartialOrd, Ord)]
 pub enum Place {
     Register(u64),
     Slot(u64),

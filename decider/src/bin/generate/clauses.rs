@@ -1,8 +1,9 @@
 //! Right sheets, as a compiler would write them for a clause: a head, then goals.
 //!
 //! A variable of more than one chunk lives in a slot, every other one in registers. The head
-//! and the first goal are one chunk.
+//! and the first goal are one chunk. After a call no register is read before it is written.
 
+use crate::saves::put_off;
 use crate::shuffle::shuffle;
 use crate::text::{Place, Step, call, deep, moving, register, shallow, slot, subterm};
 use judging::random::Random;
@@ -133,6 +134,7 @@ impl Compiler {
             }
             self.write_goal(goal);
         }
+        put_off(&mut self.random, &mut self.steps);
         self.steps
     }
 

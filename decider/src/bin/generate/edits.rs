@@ -3,7 +3,7 @@
 // All edits have one type, whether they change the count of steps or not.
 #![allow(clippy::ptr_arg)]
 
-use crate::text::{Instruction, Step, register, slot};
+use crate::text::{Instruction, Place, Step, register, slot};
 use judging::random::Random;
 
 /// Makes so many edits as are drawn, mostly one.
@@ -17,7 +17,7 @@ pub fn edit(random: &mut Random, mut steps: Vec<Step>) -> Vec<Step> {
 
 type Edit = fn(&mut Random, &mut Vec<Step>);
 
-const EDITS: [(usize, Edit); 17] = [
+const EDITS: [(usize, Edit); 19] = [
     (6, |random, steps| {
         at_instruction(random, steps, shift_place)
     }),
@@ -43,14 +43,23 @@ const EDITS: [(usize, Edit); 17] = [
     (3, swap_steps),
     (4, swap_subterms),
     (2, move_call),
+    (3, keep_in_register),
+    (4, read_register),
 ];
 
 /// Where an instruction stands: its step, and its place among the step's.
-fn position(random: &mut Random, steps: &[Step]) -> Option<(usize, usize)> {
+type Position = (usize, usize);
+
+fn positions(steps: &[Step], holds: fn(&Instruction) -> bool) -> Vec<Position> {
     let places =
         |(step, lines): (usize, &Step)| (0..lines.instructions.len()).map(move |i| (step, i));
-    let positions: Vec<(usize, usize)> = steps.iter().enumerate().flat_map(places).collect();
-    random.pick_any(&positions)
+    let all = steps.iter().enumerate().flat_map(places);
+    all.filter(|(step, index)| holds(&steps[*step].instructions[*index]))
+        .collect()
+}
+
+fn position(random: &mut Random, steps: &[Step]) -> Option<Position> {
+    random.pick_any(&positions(steps, |_| true))
 }
 
 fn at_instruction(
@@ -91,6 +100,60 @@ fn change_letter(_: &mut Random, instruction: &mut Instruction) {
         'x' => slot(instruction.place.number),
         _ => register(instruction.place.number),
     };
+}
+
+/// One slot's part is played by a register, over calls as well.
+fn keep_in_register(random: &mut Random, steps: &mut Vec<Step>) {
+    if let Some((step, index)) = random.pick_any(&positions(steps, names_slot)) {
+        let slot = steps[step].instructions[index].place;
+        let number = random.between(1, 63);
+        let instructions = steps.iter_mut().flat_map(|step| &mut step.instructions);
+        for instruction in instructions.filter(|instruction| instruction.place == slot) {
+            name_register(instruction, number);
+        }
+    }
+}
+
+fn names_slot(instruction: &Instruction) -> bool {
+    instruction.place.letter == 'y'
+}
+
+/// `put_unsafe_value` takes no register.
+fn name_register(instruction: &mut Instruction, number: usize) {
+    instruction.place = register(number);
+    if instruction.word == "put_unsafe_value" {
+        instruction.word = "put_value";
+    }
+}
+
+/// After a call a register is read where the slot was meant, mostly one that has held the
+/// same.
+fn read_register(random: &mut Random, steps: &mut Vec<Step>) {
+    let is_call = |step: &Step| step.word == "call";
+    let first_call = steps.iter().position(is_call).unwrap_or(steps.len());
+    let mut reading = positions(steps, reads_slot);
+    reading.retain(|(step, _)| *step > first_call);
+    if let Some((step, index)) = random.pick_any(&reading) {
+        let slot = steps[step].instructions[index].place;
+        let any = random.between(1, 4);
+        let number = match random.below(4) {
+            0 => any,
+            _ => held_by(random, &steps[..step], slot).unwrap_or(any),
+        };
+        name_register(&mut steps[step].instructions[index], number);
+    }
+}
+
+fn reads_slot(instruction: &Instruction) -> bool {
+    names_slot(instruction) && instruction.word.ends_with("_value")
+}
+
+/// A register that was loaded from the slot, or the slot from it.
+fn held_by(random: &mut Random, steps: &[Step], slot: Place) -> Option<usize> {
+    let instructions = steps.iter().flat_map(|step| &step.instructions);
+    let naming = instructions.filter(|instruction| instruction.place == slot);
+    let registers: Vec<usize> = naming.filter_map(|instruction| instruction.k).collect();
+    random.pick_any(&registers)
 }
 
 fn change_form(_: &mut Random, instruction: &mut Instruction) {

@@ -78,7 +78,8 @@ fn spoil_last(random: &mut Random, steps: &mut [Step]) {
     }
 }
 
-/// Goals of one argument and a deep subterm, again and again.
+/// Goals of one argument and a deep subterm, again and again; a slot keeps the variable over
+/// them, and a register does not.
 fn many_calls(random: &mut Random) -> Vec<Step> {
     let count = near(random, STEPS);
     let place = random.pick(&[register(9), slot(63)]);

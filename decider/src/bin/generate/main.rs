@@ -4,7 +4,9 @@ mod clauses;
 mod damage;
 mod edits;
 mod equalities;
+mod kept;
 mod limits;
+mod saves;
 mod shuffle;
 mod small;
 mod text;
@@ -28,7 +30,7 @@ struct Kind {
     write: WriteSheet,
 }
 
-const KINDS: [Kind; 10] = [
+const KINDS: [Kind; 11] = [
     Kind {
         name: "clauses",
         mixed: 200,
@@ -70,6 +72,12 @@ const KINDS: [Kind; 10] = [
         mixed: 60,
         few_names: 4,
         write: |random| text(&small::small(random)),
+    },
+    Kind {
+        name: "kept",
+        mixed: 40,
+        few_names: 3,
+        write: |random| text(&kept::kept(random)),
     },
     Kind {
         name: "limits",
