@@ -55,11 +55,20 @@ table =
     -- an argument is read before its call spoils it; a call with no goal steps has spoilt it
     ∷ checkSheet "h\t1\t0\ng\t1\t0\ncall\n" "accepted\n"
     ∷ checkSheet "h\t1\t0\ncall\ng\t1\t0\ncall\n" "rejected\n"
-    -- an argument is kept across its call in its register, in another register, or in a slot across two calls
+    -- an argument is wanted again after its call: from its register, from another, or from a slot after two calls
     ∷ checkSheet "h\t1\t0\ng\t1\t0\ncall\ng\t1\t0\ncall\n" "rejected\n"
     ∷ checkSheet "h\t1\t0\ng\t1\t0\nget_variable\tx5\t1\ncall\ng\t1\t0\nput_value\tx5\t1\ncall\n" "rejected\n"
     ∷ checkSheet "h\t1\t0\ng\t1\t0\nget_variable\ty1\t1\ncall\ncall\ng\t1\t0\nput_value\ty1\t1\ncall\n" "accepted\n"
     -- a variable first seen in the head is wanted after a call, from its slot, or from a slot that never held it
     ∷ checkSheet "h\t1\t0\nget_variable\ty1\t1\ncall\ng\t1\t0\nput_value\ty1\t1\ncall\n" "accepted\n"
     ∷ checkSheet "h\t1\t0\nget_variable\ty1\t1\ncall\ng\t1\t0\nput_value\ty2\t1\ncall\n" "rejected\n"
+    -- what a register got after one call is spoilt by the next, also where the goal has another argument
+    ∷ checkSheet "g\t1\t0\nput_variable\ty1\t1\ncall\ng\t1\t0\nput_value\ty1\t1\ncall\ng\t1\t0\ncall\n" "rejected\n"
+    ∷ checkSheet "g\t1\t0\nput_variable\ty1\t1\ng\t2\t1\nput_variable\ty2\t2\ncall\ng\t1\t0\nput_value\ty1\t1\ng\t2\t1\ncall\n" "rejected\n"
+    -- the last register and the last slot
+    ∷ checkSheet "g\t1\t0\nput_variable\tx63\t1\ncall\ng\t1\t0\nput_value\tx63\t1\ncall\n" "rejected\n"
+    ∷ checkSheet "g\t1\t0\nput_variable\ty63\t1\ncall\ng\t1\t0\nput_value\ty63\t1\ncall\n" "accepted\n"
+    -- a subterm after a call, from a register or from a slot
+    ∷ checkSheet "g\t1\t0\nput_variable\tx5\t1\ncall\ngd\t0\nset_value\tx5\ncall\n" "rejected\n"
+    ∷ checkSheet "g\t1\t0\nput_variable\ty1\t1\ncall\ngd\t0\nset_value\ty1\ncall\n" "accepted\n"
     ∷ []

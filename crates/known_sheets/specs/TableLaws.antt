@@ -10,4 +10,4 @@ use Rattle.known_sheets.specs.Table.{table}
 
 pub table-holds : AllHold table
 unfolding lineRead lineStep linePrinted lineAnswer maxRegAllocated lastRan lineRan ran sheetRan answeredBy eventsAnswered eventsFilled stateAfter sheetState checkLineRead lineRefusal linesDecided lastRead readFrom reading roomed checkAnswered checkFilled
-table-holds = ((refl, refl), (refl, ((refl, refl), (refl, ((refl, refl), ((refl, refl), ((refl, refl), ((refl, refl), ((refl, refl), ((refl, refl), (by-verdict _ (refl, refl), (by-verdict _ (refl, refl), (by-verdict _ (refl, refl), (by-verdict _ (refl, refl), (by-verdict _ (refl, refl), (by-verdict _ (refl, refl), (by-verdict _ (refl, refl), ((refl, refl), (by-verdict _ (refl, refl), (by-verdict _ (refl, refl), (by-verdict _ (refl, refl), (by-verdict _ (refl, refl), (by-verdict _ (refl, refl), (by-verdict _ (refl, refl), (by-verdict _ (refl, refl), (by-verdict _ (refl, refl), (by-verdict _ (refl, refl), (by-verdict _ (refl, refl), (by-verdict _ (refl, refl), (by-verdict _ (refl, refl), (by-verdict _ (refl, refl), (by-verdict _ (refl, refl), (by-verdict _ (refl, refl), (by-verdict _ (refl, refl), (by-verdict _ (refl, refl), (by-verdict _ (refl, refl), tt))))))))))))))))))))))))))))))))))))
+table-holds = ((refl, refl), (refl, ((refl, refl), (refl, ((refl, refl), ((refl, refl), ((refl, refl), ((refl, refl), ((refl, refl), ((refl, refl), (by-verdict _ (refl, refl), (by-verdict _ (refl, refl), (by-verdict _ (refl, refl), (by-verdict _ (refl, refl), (by-verdict _ (refl, refl), (by-verdict _ (refl, refl), (by-verdict _ (refl, refl), ((refl, refl), (by-verdict _ (refl, refl), (by-verdict _ (refl, refl), (by-verdict _ (refl, refl), (by-verdict _ (refl, refl), (by-verdict _ (refl, refl), (by-verdict _ (refl, refl), (by-verdict _ (refl, refl), (by-verdict _ (refl, refl), (by-verdict _ (refl, refl), (by-verdict _ (refl, refl), (by-verdict _ (refl, refl), (by-verdict _ (refl, refl), (by-verdict _ (refl, refl), (by-verdict _ (refl, refl), (by-verdict _ (refl, refl), (by-verdict _ (refl, refl), (by-verdict _ (refl, refl), (by-verdict _ (refl, refl), (by-verdict _ (refl, refl), (by-verdict _ (refl, refl), (by-verdict _ (refl, refl), (by-verdict _ (refl, refl), (by-verdict _ (refl, refl), (by-verdict _ (refl, refl), tt))))))))))))))))))))))))))))))))))))))))))

@@ -116,27 +116,27 @@ does n m (SetLocalValue place) = adds m (m .contents place)
 does n m (UnifyValue place) = adds (demands m (m .contents place) n) n
 does n m (UnifyLocalValue place) = adds (demands m (m .contents place) n) n
 
--- what each step line does: `call` reads the arguments, then spoils the registers; a call goes by the number of its step line
+-- what each step line does: `call` reads the arguments, then spoils the registers; it is known by its step's number
 abbrev pub stepped : (ℕ → ℕ → ℕ) → Machine → Step → Machine
-stepped left m (Head k v) = begins m (m .contents) (m .goal) (m .read)
-stepped left m (HeadDeep v) = begins m (m .contents) (m .goal) (m .read)
-stepped left m (Goal k v) = begins m (m .contents) (m .goal ++ k ∷ []) (m .read)
-stepped left m (GoalDeep v) = begins m (m .contents) (m .goal) (m .read)
-stepped left m Call =
-    begins m (spoilt (left (suc (m .steps))) (m .contents)) [] (m .read ++ map (λ k. m .contents (Temp k)) (m .goal))
+stepped leftBy m (Head k v) = begins m (m .contents) (m .goal) (m .read)
+stepped leftBy m (HeadDeep v) = begins m (m .contents) (m .goal) (m .read)
+stepped leftBy m (Goal k v) = begins m (m .contents) (m .goal ++ k ∷ []) (m .read)
+stepped leftBy m (GoalDeep v) = begins m (m .contents) (m .goal) (m .read)
+stepped leftBy m Call =
+    begins m (spoilt (leftBy (suc (m .steps))) (m .contents)) [] (m .read ++ map (λ k. m .contents (Temp k)) (m .goal))
 
--- ---- The run of a sheet, for a choice of the entry contents, of each step's number, and of what each call leaves in each register
+-- ---- The run of a sheet, for a choice of the entry contents, of each step's number, and of what is left by each call
 
 abbrev pub carried : (ℕ → ℕ) → (ℕ → ℕ → ℕ) → Machine → CheckLine → Machine
-carried number left m (Begins step) = stepped left m step
-carried number left m (Does instruction) = does (number (m .steps)) m instruction
+carried number leftBy m (Begins step) = stepped leftBy m step
+carried number leftBy m (Does instruction) = does (number (m .steps)) m instruction
 
 unfoldable pub runFrom : (ℕ → ℕ) → (ℕ → ℕ → ℕ) → Machine → List CheckLine → Machine
-runFrom number left m [] = m
-runFrom number left m (line ∷ lines) = runFrom number left (carried number left m line) lines
+runFrom number leftBy m [] = m
+runFrom number leftBy m (line ∷ lines) = runFrom number leftBy (carried number leftBy m line) lines
 
 abbrev pub atEntry : Contents → Machine
 atEntry entry = record { steps = 0; contents = entry; equalities = []; subterms = []; goal = []; read = [] }
 
 unfoldable pub run : Contents → (ℕ → ℕ) → (ℕ → ℕ → ℕ) → List CheckLine → Machine
-run entry number left lines = runFrom number left (atEntry entry) lines
+run entry number leftBy lines = runFrom number leftBy (atEntry entry) lines

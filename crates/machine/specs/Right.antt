@@ -14,11 +14,11 @@ AllHold ((a, b) ∷ pairs) = (a ≡ b) × AllHold pairs
 
 -- for one choice of entry contents, step numbers and numbers that the calls leave: the instructions' equalities all hold just
 -- when the variables' do, and where they hold each wanted argument at each call and each subterm is right
-pub record RightFor (entry : Contents) (number : ℕ → ℕ) (left : ℕ → ℕ → ℕ) (lines : List CheckLine) : Type 0 where
-  pub equalities : AllHold (run entry number left lines .equalities) ↔ AllHold (wanted entry number lines .equalities)
-  pub arguments : AllHold (run entry number left lines .equalities) → run entry number left lines .read ≡ wanted entry number lines .arguments
-  pub subterms : AllHold (run entry number left lines .equalities) → run entry number left lines .subterms ≡ wanted entry number lines .subterms
+pub record RightFor (entry : Contents) (number : ℕ → ℕ) (leftBy : ℕ → ℕ → ℕ) (lines : List CheckLine) : Type 0 where
+  pub equalities : AllHold (run entry number leftBy lines .equalities) ↔ AllHold (wanted entry number lines .equalities)
+  pub arguments : AllHold (run entry number leftBy lines .equalities) → run entry number leftBy lines .read ≡ wanted entry number lines .arguments
+  pub subterms : AllHold (run entry number leftBy lines .equalities) → run entry number leftBy lines .subterms ≡ wanted entry number lines .subterms
 
 -- for every choice
 abbrev pub Right : List CheckLine → Type 0
-Right lines = (entry : Contents) (number : ℕ → ℕ) (left : ℕ → ℕ → ℕ) → RightFor entry number left lines
+Right lines = (entry : Contents) (number : ℕ → ℕ) (leftBy : ℕ → ℕ → ℕ) → RightFor entry number leftBy lines

@@ -20,11 +20,11 @@ use Rattle.steps.specs.Steps.{isGetValueOrUnify, placeFits, instructionFits}
 use Rattle.machine.specs.Machine.{Contents, samePlace, written, spoilt, Machine, writes, demands, adds, does}
 use Rattle.classes.specs.Cases.{less-or-not}
 use Rattle.classes.specs.Classes.{inNames}
-use Rattle.symbolic.specs.Names.{placeName, stepName, placeCells, leftName, noName, pairCells}
+use Rattle.symbolic.specs.Names.{placeName, stepName, placeCells, callName, noName, pairCells}
 use Rattle.symbolic.specs.Symbolic.{pushed, listed, Doing, doing, held, put, did, spoiltUpTo}
 use Rattle.symbolic.specs.TablesLaws.{length-spoilt}
 use Rattle.on_names.specs.OnNames.{both, named}
-use Rattle.on_names.specs.PairsLaws.{snoc-map, Table, table-more, listed-pushed, table-pushed, names-pushed}
+use Rattle.on_names.specs.PairsLaws.{snoc-map, Table, table-more, listed-pushed, table-pushed, labelled-pushed}
 
 -- ---- Places and their names
 
@@ -52,9 +52,9 @@ pub record Places (ρ : ℕ → ℕ) (places : List ℕ) (contents : Contents) :
   pub size : length places ≡ placeCells
   pub holds : (place : RegType) → placeFits place ≡ true → contents place ≡ ρ (held places place)
 
--- no place holds what a call left, so that every name has a label
-abbrev pub AllNamed : List ℕ → Type 0
-AllNamed places = (place : RegType) → placeFits place ≡ true → held places place < noName
+-- every place holds a name that has a label, as before any call
+abbrev pub AllLabelled : List ℕ → Type 0
+AllLabelled places = (place : RegType) → placeFits place ≡ true → held places place < noName
 
 module _ (places : List ℕ) (place : RegType) (name : ℕ) where
   held-same : (other : RegType) → placeName other ≡ placeName place → placeName place < length places → held (put places place name) other ≡ name
@@ -68,10 +68,10 @@ module _ (places : List ℕ) (size : length places ≡ placeCells) (place : RegT
   fits-here = omega (arith, size, place-name place fit)
 
   -- what holds of the name that is put, and of what the other places hold, holds of what every place holds
-  put-either :
+  put-cases :
       (P : RegType → Bool → ℕ → Type 0) (other : RegType) → P other true name → P other false (held places other)
       → P other (samePlace other place) (held (put places place name) other)
-  put-either P other here there =
+  put-cases P other here there =
       (elim (samePlace other place) as
       (λ t. samePlace other place ≡ t → P other t (held (put places place name) other)) [
         | true ↦ λ e. rw (held-same places place name other (same-name other place e) fits-here) here
@@ -79,32 +79,33 @@ module _ (places : List ℕ) (size : length places ≡ placeCells) (place : RegT
       ])
       refl
 
-  pub named-put : AllNamed places → name < noName → AllNamed (put places place name)
-  named-put h low other fits = put-either (λ q t n. n < noName) other low (h other fits)
+  labelled-put : AllLabelled places → name < noName → AllLabelled (put places place name)
+  labelled-put h low other fits = put-cases (λ q t n. n < noName) other low (h other fits)
 
   module _ (ρ : ℕ → ℕ) (contents : Contents) (p : Places ρ places contents) (n : ℕ) (same : n ≡ ρ name) where
     pub places-written : Places ρ (put places place name) (written place n contents)
     places-written =
         record {
           size = length-set places (placeName place) name ∙ size;
-          holds = λ other h. put-either (λ q t k. (if t then n else contents q) ≡ ρ k) other same (p .holds other h);
+          holds = λ other h. put-cases (λ q t k. (if t then n else contents q) ≡ ρ k) other same (p .holds other h);
         }
 
 -- ---- What `call` leaves
 
-module _ (call : ℕ) (places : List ℕ) (size : length places ≡ placeCells) where
+module _ (call : ℕ) (places : List ℕ) where
   held-spoilt :
-      (last r : ℕ) → last ≤ registers → 1 ≤ r → r ≤ last → held (spoiltUpTo call last places) (Temp r) ≡ leftName call r
+      length places ≡ placeCells → (last r : ℕ) → last ≤ registers → 1 ≤ r → r ≤ last
+      → held (spoiltUpTo call last places) (Temp r) ≡ callName call r
   unfolding spoiltUpTo
-  held-spoilt zero r few some h = absurd (omega arith)
-  held-spoilt (suc last) r few some h =
+  held-spoilt size zero r few some h = absurd (omega arith)
+  held-spoilt size (suc last) r few some h =
       let now = spoiltUpTo call last places in
       let here : placeName (Temp (suc last)) < length now = omega (arith, length-spoilt call places last, size) in
       ⊎-elim
-      (λ less. (let other : placeName (Temp r) ≡ placeName (Temp (suc last)) → ⊥ = λ e. omega arith in
-      held-other now (Temp (suc last)) (leftName call (suc last)) (Temp r) other ∙ held-spoilt last r (omega arith) some (omega arith)))
-      (λ most. (let same : r ≡ suc last = omega arith in
-      rw same (held-same now (Temp (suc last)) (leftName call (suc last)) (Temp (suc last)) refl here)))
+      (λ before. (let other : placeName (Temp r) ≡ placeName (Temp (suc last)) → ⊥ = λ e. omega arith in
+      held-other now (Temp (suc last)) (callName call (suc last)) (Temp r) other ∙ held-spoilt size last r (omega arith) some (omega arith)))
+      (λ last-one. (let same : r ≡ suc last = omega arith in
+      rw same (held-same now (Temp (suc last)) (callName call (suc last)) (Temp (suc last)) refl here)))
       (less-or-not r (suc last))
 
   held-kept : (last slot : ℕ) → held (spoiltUpTo call last places) (Perm slot) ≡ held places (Perm slot)
@@ -112,7 +113,7 @@ module _ (call : ℕ) (places : List ℕ) (size : length places ≡ placeCells) 
   held-kept zero slot = refl
   held-kept (suc last) slot =
       let other : placeName (Perm slot) ≡ placeName (Temp (suc last)) → ⊥ = λ e. omega arith in
-      held-other (spoiltUpTo call last places) (Temp (suc last)) (leftName call (suc last)) (Perm slot) other ∙ held-kept last slot
+      held-other (spoiltUpTo call last places) (Temp (suc last)) (callName call (suc last)) (Perm slot) other ∙ held-kept last slot
 
 module _
     (ρ : ℕ → ℕ)
@@ -121,13 +122,13 @@ module _
     (p : Places ρ places contents)
     (call : ℕ)
     (left : ℕ → ℕ)
-    (leaves : (r : ℕ) → isRegister r ≡ true → left r ≡ ρ (leftName call r))
+    (leaves : (r : ℕ) → isRegister r ≡ true → left r ≡ ρ (callName call r))
   where
     spoilt-holds : (place : RegType) → placeFits place ≡ true → spoilt left contents place ≡ ρ (held (spoiltUpTo call registers places) place)
     spoilt-holds (Temp r) h =
         let fit = register-exactly r .0 h in
         leaves r h ∙ sym (ap ρ (held-spoilt call places (p .size) registers r (omega arith) (fit .0) (fit .1)))
-    spoilt-holds (Perm slot) h = p .holds (Perm slot) h ∙ sym (ap ρ (held-kept call places (p .size) registers slot))
+    spoilt-holds (Perm slot) h = p .holds (Perm slot) h ∙ sym (ap ρ (held-kept call places registers slot))
 
     pub places-spoilt : Places ρ (spoiltUpTo call registers places) (spoilt left contents)
     places-spoilt = record { size = length-spoilt call places registers ∙ p .size; holds = spoilt-holds }
@@ -138,7 +139,7 @@ pub record Acts (ρ : ℕ → ℕ) (step mostDemands mostMade : ℕ) (d : Doing)
   pub steps : m .steps ≡ step
   pub places : Places ρ (d .places) (m .contents)
   pub demands : Table mostDemands (d .demands)
-  pub demands-named : inNames (listed (d .demands)) ≡ true
+  pub demands-labelled : inNames (listed (d .demands)) ≡ true
   pub made : Table mostMade (d .made)
   pub equalities : m .equalities ≡ map (both ρ) (listed (d .demands))
   pub subterms : m .subterms ≡ map (named ρ) (listed (d .made))
@@ -150,7 +151,7 @@ module _ (ρ : ℕ → ℕ) (step x y : ℕ) (d : Doing) (m : Machine) (a : Acts
         steps = a .steps;
         places = a .places;
         demands = table-more most hx (a .demands);
-        demands-named = a .demands-named;
+        demands-labelled = a .demands-labelled;
         made = table-more most hy (a .made);
         equalities = a .equalities;
         subterms = a .subterms;
@@ -164,7 +165,7 @@ module _ (ρ : ℕ → ℕ) (step x y : ℕ) (d : Doing) (m : Machine) (a : Acts
         steps = a .steps;
         places = places-written (d .places) (a .places .size) place fit name ρ (m .contents) (a .places) n same;
         demands = a .demands;
-        demands-named = a .demands-named;
+        demands-labelled = a .demands-labelled;
         made = a .made;
         equalities = a .equalities;
         subterms = a .subterms;
@@ -178,7 +179,7 @@ module _ (ρ : ℕ → ℕ) (step x y : ℕ) (d : Doing) (m : Machine) (a : Acts
         steps = a .steps;
         places = a .places;
         demands = table-pushed x (d .demands) name other (a .demands) room;
-        demands-named = names-pushed x (d .demands) name other (a .demands) room low low′ (a .demands-named);
+        demands-labelled = labelled-pushed x (d .demands) name other (a .demands) room low low′ (a .demands-labelled);
         made = a .made;
         equalities =
             snoc-map (both ρ) (listed (d .demands)) (name, other) (m .equalities) (n, k) (a .equalities) (λ i. (same i, same′ i))
@@ -194,7 +195,7 @@ module _ (ρ : ℕ → ℕ) (step x y : ℕ) (d : Doing) (m : Machine) (a : Acts
         steps = a .steps;
         places = a .places;
         demands = a .demands;
-        demands-named = a .demands-named;
+        demands-labelled = a .demands-labelled;
         made = table-pushed y (d .made) step name (a .made) room;
         equalities = a .equalities;
         subterms =
@@ -271,7 +272,7 @@ module _
 
     -- what a place holds is to be the step's number, which the subterm list gets
     meets :
-        AllNamed (d .places) → (place : RegType) → placeFits place ≡ true
+        AllLabelled (d .places) → (place : RegType) → placeFits place ≡ true
         → Acts
         ρ
         step
@@ -289,7 +290,7 @@ module _
 
     -- what a place holds is to be what a register holds
     compares :
-        AllNamed (d .places) → (place from : RegType) → placeFits place ≡ true → placeFits from ≡ true
+        AllLabelled (d .places) → (place from : RegType) → placeFits place ≡ true → placeFits from ≡ true
         → Acts
         ρ
         step
@@ -321,9 +322,9 @@ module _
         let e = acts-writes ρ step most most _ _ w from fit′ (stepName step) n refl in
         acts-more ρ step most most _ _ e (suc most) (omega arith) (omega arith)
 
-    -- equalities are demanded of names alone
+    -- equalities are demanded of names that have labels
     pub does-stands :
-        (instruction : Instruction) → instructionFits instruction ≡ true → (isGetValueOrUnify instruction ≡ true → AllNamed (d .places))
+        (instruction : Instruction) → instructionFits instruction ≡ true → (isGetValueOrUnify instruction ≡ true → AllLabelled (d .places))
         → Acts ρ step (suc most) (suc most) (did step d instruction) (does (ρ (stepName step)) m instruction)
     does-stands (GetVariable place k) h named =
         let f = fits-both place k h in
@@ -347,27 +348,27 @@ module _
     does-stands (UnifyValue place) h named = meets (named refl) place h
     does-stands (UnifyLocalValue place) h named = meets (named refl) place h
 
-    -- and names are what is put where all places hold names
-    pub does-named :
-        AllNamed (d .places) → (instruction : Instruction) → instructionFits instruction ≡ true
-        → AllNamed (did step d instruction .places)
-    does-named named (GetVariable place k) h =
+    -- and where every place holds such a name, every place still does
+    pub does-labelled :
+        AllLabelled (d .places) → (instruction : Instruction) → instructionFits instruction ≡ true
+        → AllLabelled (did step d instruction .places)
+    does-labelled named (GetVariable place k) h =
         let f = fits-both place k h in
-        named-put (d .places) (a .places .size) place (f .0) _ named (named (Temp k) (f .1))
-    does-named named (GetValue place k) h = named
-    does-named named (PutVariable place k) h =
+        labelled-put (d .places) (a .places .size) place (f .0) _ named (named (Temp k) (f .1))
+    does-labelled named (GetValue place k) h = named
+    does-labelled named (PutVariable place k) h =
         let f = fits-both place k h in
         let size = length-set (d .places) (placeName place) (stepName step) ∙ a .places .size in
-        named-put (put (d .places) place (stepName step)) size (Temp k) (f .1) _ (named-put (d .places) (a .places .size) place (f .0) _ named own-name) own-name
-    does-named named (PutValue place k) h =
+        labelled-put (put (d .places) place (stepName step)) size (Temp k) (f .1) _ (labelled-put (d .places) (a .places .size) place (f .0) _ named own-name) own-name
+    does-labelled named (PutValue place k) h =
         let f = fits-both place k h in
-        named-put (d .places) (a .places .size) (Temp k) (f .1) _ named (named place (f .0))
-    does-named named (PutUnsafeValue slot k) h =
+        labelled-put (d .places) (a .places .size) (Temp k) (f .1) _ named (named place (f .0))
+    does-labelled named (PutUnsafeValue slot k) h =
         let f = fits-both (Perm slot) k h in
-        named-put (d .places) (a .places .size) (Temp k) (f .1) _ named (named (Perm slot) (f .0))
-    does-named named (SetVariable place) h = named-put (d .places) (a .places .size) place h _ named own-name
-    does-named named (SetValue place) h = named
-    does-named named (SetLocalValue place) h = named
-    does-named named (UnifyVariable place) h = named-put (d .places) (a .places .size) place h _ named own-name
-    does-named named (UnifyValue place) h = named
-    does-named named (UnifyLocalValue place) h = named
+        labelled-put (d .places) (a .places .size) (Temp k) (f .1) _ named (named (Perm slot) (f .0))
+    does-labelled named (SetVariable place) h = labelled-put (d .places) (a .places .size) place h _ named own-name
+    does-labelled named (SetValue place) h = named
+    does-labelled named (SetLocalValue place) h = named
+    does-labelled named (UnifyVariable place) h = labelled-put (d .places) (a .places .size) place h _ named own-name
+    does-labelled named (UnifyValue place) h = named
+    does-labelled named (UnifyLocalValue place) h = named

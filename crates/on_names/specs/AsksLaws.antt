@@ -22,8 +22,8 @@ use Rattle.classes.specs.Classes.{inNames}
 use Rattle.symbolic.specs.Names.{placeName, stepName, noName, pairCells}
 use Rattle.symbolic.specs.Symbolic.{Pairs, pushed, listed, Wanting, valueOf, again, wanted}
 use Rattle.on_names.specs.OnNames.{both, named}
-use Rattle.on_names.specs.ChoiceLaws.{Chooses}
-use Rattle.on_names.specs.PairsLaws.{snoc-map, Table, table-more, listed-pushed, table-pushed, names-pushed}
+use Rattle.on_names.specs.ChoiceLaws.{Agrees}
+use Rattle.on_names.specs.PairsLaws.{snoc-map, Table, table-more, listed-pushed, table-pushed, labelled-pushed}
 
 -- ---- The name in the place of a variable's value
 
@@ -60,7 +60,7 @@ module _ (ρ : ℕ → ℕ) (offered n : ℕ) (low : offered < noName) (same : n
       let differ : name ≡ noName → ⊥ = λ e. omega arith in
       simp (ne-eqb name noName differ) (
         table-pushed most wants name offered t room,
-        names-pushed most wants name offered t room (h .0) low named,
+        labelled-pushed most wants name offered t room (h .0) low named,
         snoc-map (both ρ) (listed wants) (name, offered) equalities (k, n) e (λ i. (h .1 i, same i))
             ∙ sym (ap (map (both ρ)) (listed-pushed most wants name offered t room)),
       )
@@ -93,7 +93,7 @@ pub record Asks (ρ : ℕ → ℕ) (step : ℕ) (w : Wanting) (v : Wanted) : Typ
   pub steps : v .steps ≡ step
   pub values : Values ρ (w .values) (v .values)
   pub wants : Table step (w .wants)
-  pub wants-named : inNames (listed (w .wants)) ≡ true
+  pub wants-labelled : inNames (listed (w .wants)) ≡ true
   pub due : Table step (w .due)
   pub equalities : v .equalities ≡ map (both ρ) (listed (w .wants))
   pub subterms : v .subterms ≡ map (named ρ) (listed (w .due))
@@ -103,8 +103,8 @@ module _
     {ρ : ℕ → ℕ}
     {entry : Contents}
     {number : ℕ → ℕ}
-    {left : ℕ → ℕ → ℕ}
-    (chooses : Chooses ρ entry number left)
+    {leftBy : ℕ → ℕ → ℕ}
+    (agrees : Agrees ρ entry number leftBy)
     (step next : ℕ)
     (follows : next ≡ suc step)
     (few : next ≤ steps)
@@ -120,7 +120,7 @@ module _
 
     -- the step's number
     pub offers : number (suc (wanted-so-far .steps)) ≡ ρ (stepName next)
-    offers = ap number counted ∙ chooses .numbers next few
+    offers = ap number counted ∙ agrees .numbers next
 
     own-name : stepName next < noName
     own-name = omega arith
@@ -147,7 +147,7 @@ module _
         room
         (w .wants)
         (a .wants)
-        (a .wants-named)
+        (a .wants-labelled)
         (wanted-so-far .equalities)
         (a .equalities)
         (getD (w .values) v 0)
@@ -171,13 +171,13 @@ module _
         let f = argument-and-variable k v h in
         let o = placeName (Temp k) in
         let low : o < noName = omega arith in
-        let same = chooses .entries (Temp k) (register-exactly k .1 (f .0, f .1)) in
+        let same = agrees .entries (Temp k) (register-exactly k .1 (f .0, f .1)) in
         let demand = demands-again o (entry (Temp k)) low same v (f .2) in
         record {
           steps = counted;
           values = values-fixed ρ o (entry (Temp k)) low same (w .values) (wanted-so-far .values) (a .values) v (f .2);
           wants = grown _ (demand .0);
-          wants-named = demand .1;
+          wants-labelled = demand .1;
           due = more _ (a .due);
           equalities = demand .2;
           subterms = append-nil (wanted-so-far .subterms) ∙ a .subterms;
@@ -193,7 +193,7 @@ module _
           steps = counted;
           values = values-fixed ρ o n own-name offers (w .values) (wanted-so-far .values) (a .values) v small;
           wants = grown _ (demand .0);
-          wants-named = demand .1;
+          wants-labelled = demand .1;
           due = due-now .0;
           equalities = demand .2;
           subterms = due-now .1;
@@ -206,7 +206,7 @@ module _
           steps = counted;
           values = values-fixed ρ o n own-name offers (w .values) (wanted-so-far .values) (a .values) v (f .2);
           wants = more _ (a .wants);
-          wants-named = a .wants-named;
+          wants-labelled = a .wants-labelled;
           due = more _ (a .due);
           equalities = append-nil (wanted-so-far .equalities) ∙ a .equalities;
           subterms = append-nil (wanted-so-far .subterms) ∙ a .subterms;
@@ -221,7 +221,7 @@ module _
           steps = counted;
           values = values-fixed ρ o n own-name offers (w .values) (wanted-so-far .values) (a .values) v small;
           wants = more _ (a .wants);
-          wants-named = a .wants-named;
+          wants-labelled = a .wants-labelled;
           due = due-now .0;
           equalities = append-nil (wanted-so-far .equalities) ∙ a .equalities;
           subterms = due-now .1;
@@ -231,7 +231,7 @@ module _
           steps = counted;
           values = a .values;
           wants = more _ (a .wants);
-          wants-named = a .wants-named;
+          wants-labelled = a .wants-labelled;
           due = more _ (a .due);
           equalities = a .equalities;
           subterms = a .subterms;

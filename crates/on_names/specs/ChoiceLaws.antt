@@ -1,21 +1,22 @@
--- A choice for a check sheet and a choice of names' values: each is made by one of the other kind.
-use Prim.Native.Nat.{ℕ, zero, suc, _+_, _*_, _/_, _%_, _≤_}
+-- What can be chosen for a check sheet has a name: of every choice for a sheet there are names' values that agree with it, and of
+-- all names' values a choice.
+use Prim.Native.Nat.{ℕ, zero, suc, _+_, _*_, _/_, _%_}
 use mathlib.Core.Path.{_≡_, refl, sym, ap₂, _∙_}
 use mathlib.Core.Bool.{true}
 use native.Mathlib.Omega.{arith}
-use Rattle.sizes.specs.Sizes.{registers, steps, isRegister}
+use Rattle.sizes.specs.Sizes.{registers, isRegister}
 use Rattle.sizes.specs.SizesLaws.{register-exactly}
 use Rattle.registers.specs.declared.RegType.{RegType}
 use Rattle.registers.specs.declared.RegType.the-variants.{Temp, Perm}
 use Rattle.steps.specs.Steps.{placeFits}
 use Rattle.machine.specs.Machine.{Contents}
-use Rattle.symbolic.specs.Names.{placeName, stepName, leftName}
+use Rattle.symbolic.specs.Names.{placeName, stepName, callName}
 
--- names have the values that are chosen, as far as a sheet of 256 step lines can name registers, slots, steps and calls
-pub record Chooses (ρ : ℕ → ℕ) (entry : Contents) (number : ℕ → ℕ) (left : ℕ → ℕ → ℕ) : Type 0 where
+-- the values of names agree with a choice, in all that a sheet can name; the first step's number is 1
+pub record Agrees (ρ : ℕ → ℕ) (entry : Contents) (number : ℕ → ℕ) (leftBy : ℕ → ℕ → ℕ) : Type 0 where
   pub entries : (place : RegType) → placeFits place ≡ true → entry place ≡ ρ (placeName place)
-  pub numbers : (step : ℕ) → step ≤ steps → number step ≡ ρ (stepName step)
-  pub leaves : (call r : ℕ) → 1 ≤ call → call ≤ steps → isRegister r ≡ true → left call r ≡ ρ (leftName call r)
+  pub numbers : (step : ℕ) → number step ≡ ρ (stepName step)
+  pub leaves : (earlier r : ℕ) → isRegister r ≡ true → leftBy (suc earlier) r ≡ ρ (callName (suc earlier) r)
 
 -- ---- Of names' values, a choice for a sheet
 
@@ -26,19 +27,19 @@ module _ (ρ : ℕ → ℕ) where
   abbrev pub numberOf : ℕ → ℕ
   numberOf step = ρ (stepName step)
 
-  abbrev pub leftOf : ℕ → ℕ → ℕ
-  leftOf call r = ρ (leftName call r)
+  abbrev pub leftByOf : ℕ → ℕ → ℕ
+  leftByOf call r = ρ (callName call r)
 
-  pub chooses-of : Chooses ρ entryOf numberOf leftOf
-  chooses-of = record { entries = λ place h. refl; numbers = λ step h. refl; leaves = λ call r h few fit. refl }
+  pub values-agree : Agrees ρ entryOf numberOf leftByOf
+  values-agree = record { entries = λ place h. refl; numbers = λ step. refl; leaves = λ earlier r h. refl }
 
 -- ---- Of a choice for a sheet, names' values
 
-module _ (entry : Contents) (number : ℕ → ℕ) (left : ℕ → ℕ → ℕ) where
-  -- what a register holds at entry, or behind a call
+module _ (entry : Contents) (number : ℕ → ℕ) (leftBy : ℕ → ℕ → ℕ) where
+  -- what a register holds at entry, or after a call
   abbrev registerValue : ℕ → ℕ → ℕ
   registerValue zero r = entry (Temp r)
-  registerValue (suc call) r = left (suc call) r
+  registerValue (suc earlier) r = leftBy (suc earlier) r
 
   -- what a name names is told by the rest by 3
   abbrev valueAt : ℕ → ℕ → ℕ
@@ -64,17 +65,11 @@ module _ (entry : Contents) (number : ℕ → ℕ) (left : ℕ → ℕ → ℕ) 
   chosen-step : (step : ℕ) → number step ≡ chosen (stepName step)
   chosen-step step = sym (told (3 * step + 2) 2 step (omega arith) (omega arith))
 
-  chosen-left : (call r : ℕ) → 1 ≤ call → isRegister r ≡ true → left call r ≡ chosen (leftName call r)
-  chosen-left zero r some h = absurd (omega arith)
-  chosen-left (suc call) r some h =
+  chosen-left : (earlier r : ℕ) → isRegister r ≡ true → leftBy (suc earlier) r ≡ chosen (callName (suc earlier) r)
+  chosen-left earlier r h =
       let fit = register-exactly r .0 h in
-      let n = (registers + 1) * suc call + r in
-      sym (told (leftName (suc call) r) 0 n (omega arith) (omega arith) ∙ register-told n (suc call) r (omega arith) (omega arith))
+      let n = (registers + 1) * suc earlier + r in
+      sym (told (callName (suc earlier) r) 0 n (omega arith) (omega arith) ∙ register-told n (suc earlier) r (omega arith) (omega arith))
 
-  pub chooses-chosen : Chooses chosen entry number left
-  chooses-chosen =
-      record {
-        entries = chosen-place;
-        numbers = λ step h. chosen-step step;
-        leaves = λ call r some few fit. chosen-left call r some fit;
-      }
+  pub chosen-agrees : Agrees chosen entry number leftBy
+  chosen-agrees = record { entries = chosen-place; numbers = chosen-step; leaves = chosen-left }

@@ -13,7 +13,7 @@ use Rattle.classes.specs.Forces.{Holds}
 use Rattle.symbolic.specs.Symbolic.{listed, allAccepted}
 use Rattle.on_names.specs.OnNames.{both, first, second, symbolsOf, RightUnder, RightOnNames}
 use Rattle.on_names.specs.StandsLaws.{Stands, sheet-stands}
-use Rattle.on_names.specs.ChoiceLaws.{Chooses, entryOf, numberOf, leftOf, chooses-of, chosen, chooses-chosen}
+use Rattle.on_names.specs.ChoiceLaws.{Agrees, entryOf, numberOf, leftByOf, values-agree, chosen, chosen-agrees}
 
 -- ---- Pairs that hold
 
@@ -45,19 +45,19 @@ module _
     {ρ : ℕ → ℕ}
     {entry : Contents}
     {number : ℕ → ℕ}
-    {left : ℕ → ℕ → ℕ}
-    (chooses : Chooses ρ entry number left)
+    {leftBy : ℕ → ℕ → ℕ}
+    (agrees : Agrees ρ entry number leftBy)
   where
-    stands : Stands ρ (symbolsOf lines) (run entry number left lines) (wanted entry number lines)
-    stands = sheet-stands lines good chooses
+    stands : Stands ρ (symbolsOf lines) (run entry number leftBy lines) (wanted entry number lines)
+    stands = sheet-stands lines good agrees
 
-    demands-hold : AllHold (run entry number left lines .equalities) ↔ Holds ρ (listed (symbolsOf lines .doing .demands))
+    demands-hold : AllHold (run entry number leftBy lines .equalities) ↔ Holds ρ (listed (symbolsOf lines .doing .demands))
     demands-hold = hold-stands ρ _ _ (stands .demands)
 
     wants-hold : AllHold (wanted entry number lines .equalities) ↔ Holds ρ (listed (symbolsOf lines .wanting .wants))
     wants-hold = hold-stands ρ _ _ (stands .wants)
 
-    right-under : RightFor entry number left lines → RightUnder ρ (symbolsOf lines)
+    right-under : RightFor entry number leftBy lines → RightUnder ρ (symbolsOf lines)
     right-under r =
         record {
           equalities = (λ h. wants-hold .0 (r .equalities .0 (demands-hold .1 h)), λ h. demands-hold .0 (r .equalities .1 (wants-hold .1 h)));
@@ -65,7 +65,7 @@ module _
           subterms = λ h. sym (stands .made) ∙ r .subterms (demands-hold .1 h) ∙ stands .due;
         }
 
-    under-right : RightUnder ρ (symbolsOf lines) → RightFor entry number left lines
+    under-right : RightUnder ρ (symbolsOf lines) → RightFor entry number leftBy lines
     under-right r =
         record {
           equalities = (λ h. wants-hold .1 (r .equalities .0 (demands-hold .0 h)), λ h. demands-hold .1 (r .equalities .1 (wants-hold .0 h)));
@@ -79,6 +79,6 @@ pub right-on-names :
     (lines : List CheckLine) → allAccepted freshOrder lines ≡ true
     → Right lines ↔ RightOnNames (symbolsOf lines)
 right-on-names lines good = (
-  λ right ρ. right-under lines good (chooses-of ρ) (right (entryOf ρ) (numberOf ρ) (leftOf ρ)),
-  λ right entry number left. under-right lines good (chooses-chosen entry number left) (right (chosen entry number left)),
+  λ right ρ. right-under lines good (values-agree ρ) (right (entryOf ρ) (numberOf ρ) (leftByOf ρ)),
+  λ right entry number leftBy. under-right lines good (chosen-agrees entry number leftBy) (right (chosen entry number leftBy)),
 )

@@ -1,4 +1,4 @@
--- Laws of pairs in a table: what is listed after one more, and whether all numbers are names.
+-- Laws of pairs in a table: what is listed after one more, and whether all its numbers have labels.
 use Prim.Native.Nat.{ℕ, suc, _+_, _*_, _≤_, _<_}
 use mathlib.Core.Path.{_≡_, refl, sym, ap, _∙_}
 use mathlib.Core.Bool.{true}
@@ -104,5 +104,5 @@ module _ (most : ℕ) (p : Pairs) (a b : ℕ) (t : Table most p) (room : 2 * mos
         few = omega (arith, longer, t .few);
       }
 
-  pub names-pushed : a < noName → b < noName → inNames (listed p) ≡ true → inNames (listed (pushed p a b)) ≡ true
-  names-pushed ha hb h = rw listed-pushed (names-snoc (listed p) a b h ha hb)
+  pub labelled-pushed : a < noName → b < noName → inNames (listed p) ≡ true → inNames (listed (pushed p a b)) ≡ true
+  labelled-pushed ha hb h = rw listed-pushed (names-snoc (listed p) a b h ha hb)

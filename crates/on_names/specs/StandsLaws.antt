@@ -1,11 +1,11 @@
 -- The run on names stands for the machine's run and for what is wanted: under every choice each holds the values of the names.
-use Prim.Native.Nat.{ℕ, zero, suc, _+_, _*_, _≤_, _<_}
+use Prim.Native.Nat.{ℕ, suc, _+_, _*_, _≤_, _<_}
 use mathlib.Core.Path.{_≡_, refl, sym, ap, subst, _∙_}
 use mathlib.Core.Bool.{true}
 use mathlib.Core.List.{List, [], _∷_, map}
 use native.Mathlib.Omega.{arith}
 use lib.Dec.{eqb}
-use lib.ListN.{length, getD, length-replicate, getD-replicate}
+use lib.ListN.{getD, length-replicate, getD-replicate}
 use borrow.Author.Tests.{eqb-true}
 use Rattle.notation.specs.ChoiceLaws.{both-true}
 use Rattle.notation.specs.Lists.{numbersFrom}
@@ -29,12 +29,12 @@ use Rattle.machine.specs.Machine.{Contents, Machine, begins, does, stepped, run
 use Rattle.machine.specs.Machine.{carried as machineCarried}
 use Rattle.machine.specs.Wanted.{Wanted, wants, wantedBy, wantedFrom, nothingWanted}
 use Rattle.machine.specs.Wanted.{wanted as wantedOf}
-use Rattle.symbolic.specs.Names.{placeName, stepName, placeCells, leftName, noName, pairCells}
-use Rattle.symbolic.specs.Symbolic.{listed, doing, leftAt, Symbols, wanted, claimedAt, carried, noPairs, freshSymbols, allAccepted, carriedAll}
+use Rattle.symbolic.specs.Names.{placeName, stepName, placeCells, callName, noName, pairCells}
+use Rattle.symbolic.specs.Symbolic.{listed, doing, spoiltAt, Symbols, wanted, claimedAt, carried, noPairs, freshSymbols, allAccepted, carriedAll}
 use Rattle.on_names.specs.OnNames.{both, named, first, second, symbolsOf}
-use Rattle.on_names.specs.ChoiceLaws.{Chooses, chooses-of}
+use Rattle.on_names.specs.ChoiceLaws.{Agrees, values-agree}
 use Rattle.on_names.specs.PairsLaws.{Table, table-more, table-fresh}
-use Rattle.on_names.specs.ActsLaws.{place-name, Places, AllNamed, places-spoilt, Acts, acts-more, does-stands, does-named}
+use Rattle.on_names.specs.ActsLaws.{place-name, Places, AllLabelled, places-spoilt, Acts, acts-more, does-stands, does-labelled}
 use Rattle.on_names.specs.AsksLaws.{value-stands, Asks, offers, wants-stands}
 use Rattle.on_names.specs.ReadsLaws.{register, Reads, reads-same, reads-argument, reads-call}
 
@@ -48,8 +48,8 @@ pub record Standing (ρ : ℕ → ℕ) (order : Order) (s : Symbols) (m : Machin
   pub few : order .steps ≤ steps
   pub short : order .instructions ≤ instructions
   pub acts : Acts ρ (order .steps) (mostDone order) (mostDone order) (s .doing) m
-  -- in the head, where equalities are demanded, no call has left anything
-  pub named : order .kind ≤ headStep → AllNamed (s .doing .places)
+  -- equalities are demanded in the head alone, where no call has left anything
+  pub labelled : order .kind ≤ headStep → AllLabelled (s .doing .places)
   pub asks : Asks ρ (order .steps) (s .wanting) w
   pub reads : Reads ρ (order .steps) (s .wanting .goal) (s .claims) (m .goal) (w .goal) (m .read) (w .arguments)
 
@@ -59,8 +59,8 @@ module _
     {ρ : ℕ → ℕ}
     {entry : Contents}
     {number : ℕ → ℕ}
-    {left : ℕ → ℕ → ℕ}
-    (chooses : Chooses ρ entry number left)
+    {leftBy : ℕ → ℕ → ℕ}
+    (agrees : Agrees ρ entry number leftBy)
     (order : Order)
     (s : Symbols)
     (m : Machine)
@@ -84,26 +84,25 @@ module _
           steps = ap suc (h .acts .steps) ∙ sym next;
           places = p;
           demands = table-more _ (omega (arith, h .short)) (h .acts .demands);
-          demands-named = h .acts .demands-named;
+          demands-labelled = h .acts .demands-labelled;
           made = table-more _ (omega (arith, h .short)) (h .acts .made);
           equalities = h .acts .equalities;
           subterms = h .acts .subterms;
         }
 
-    named-begun :
+    labelled-begun :
         (step : Step) → judged order (Begins step) .refusal ≡ accepted → kindOf step ≤ headStep
-        → AllNamed (leftAt (order .steps + 1) (s .doing .places) step)
-    named-begun (Head k v) good e = h .named (head-goes-on order (Head k v) good refl)
-    named-begun (HeadDeep v) good e = h .named (head-goes-on order (HeadDeep v) good refl)
-    named-begun (Goal k v) good e = absurd (omega arith)
-    named-begun (GoalDeep v) good e = absurd (omega arith)
-    named-begun Call good e = absurd (omega arith)
+        → AllLabelled (spoiltAt (order .steps + 1) (s .doing .places) step)
+    labelled-begun (Head k v) good e = h .labelled (head-goes-on order (Head k v) good refl)
+    labelled-begun (HeadDeep v) good e = h .labelled (head-goes-on order (HeadDeep v) good refl)
+    labelled-begun (Goal k v) good e = absurd (omega arith)
+    labelled-begun (GoalDeep v) good e = absurd (omega arith)
+    labelled-begun Call good e = absurd (omega arith)
 
     module _ (bounded : order .steps + 1 ≤ steps) where
-      leaves : (r : ℕ) → isRegister r ≡ true → left (suc (m .steps)) r ≡ ρ (leftName (order .steps + 1) r)
+      leaves : (r : ℕ) → isRegister r ≡ true → leftBy (suc (m .steps)) r ≡ ρ (callName (order .steps + 1) r)
       leaves r fit =
-          let same = ap suc (h .acts .steps) ∙ sym next in
-          ap (λ (call : ℕ). left call r) same ∙ chooses .leaves (order .steps + 1) r (omega arith) bounded fit
+          agrees .leaves (m .steps) r fit ∙ ap (λ (call : ℕ). ρ (callName call r)) (ap suc (h .acts .steps) ∙ sym next)
 
       acts-step :
           (step : Step)
@@ -112,14 +111,14 @@ module _
           (order .steps + 1)
           (mostDone (begun order step))
           (mostDone (begun order step))
-          (doing (leftAt (order .steps + 1) (s .doing .places) step) (s .doing .demands) (s .doing .made))
-          (stepped left m step)
+          (doing (spoiltAt (order .steps + 1) (s .doing .places) step) (s .doing .demands) (s .doing .made))
+          (stepped leftBy m step)
       acts-step (Head k v) = acts-begun (Head k v) _ _ (m .goal) (m .read) (h .acts .places)
       acts-step (HeadDeep v) = acts-begun (HeadDeep v) _ _ (m .goal) (m .read) (h .acts .places)
       acts-step (Goal k v) = acts-begun (Goal k v) _ _ _ (m .read) (h .acts .places)
       acts-step (GoalDeep v) = acts-begun (GoalDeep v) _ _ (m .goal) (m .read) (h .acts .places)
       acts-step Call =
-          acts-begun Call _ _ [] _ (places-spoilt ρ (s .doing .places) (m .contents) (h .acts .places) (order .steps + 1) (left (suc (m .steps))) leaves)
+          acts-begun Call _ _ [] _ (places-spoilt ρ (s .doing .places) (m .contents) (h .acts .places) (order .steps + 1) (leftBy (suc (m .steps))) leaves)
 
       reads-step :
           (step : Step) → fits (Begins step) ≡ true
@@ -128,9 +127,9 @@ module _
           (order .steps + 1)
           (wanted (order .steps + 1) (s .wanting) step .goal)
           (claimedAt (s .doing .places) (s .claims) (s .wanting .goal) step)
-          (stepped left m step .goal)
+          (stepped leftBy m step .goal)
           (wants entry number w step .goal)
-          (stepped left m step .read)
+          (stepped leftBy m step .read)
           (wants entry number w step .arguments)
       reads-step (Head k v) f = reads-same ρ _ _ next bounded _ _ _ _ _ _ (h .reads)
       reads-step (HeadDeep v) f = reads-same ρ _ _ next bounded _ _ _ _ _ _ (h .reads)
@@ -140,7 +139,7 @@ module _
           let o = stepName (order .steps + 1) in
           let low : o < noName = omega arith in
           let n = number (suc (w .steps)) in
-          let same = offers chooses (order .steps) (order .steps + 1) next bounded (s .wanting) w (h .asks) in
+          let same = offers agrees (order .steps) (order .steps + 1) next bounded (s .wanting) w (h .asks) in
           let value = value-stands ρ o n low same (getD (s .wanting .values) v 0) (w .values v) (h .asks .values .stands v (a .2)) in
           reads-argument ρ _ _ next bounded _ _ _ _ _ _ (h .reads) k _ _ e (value .1)
       reads-step (GoalDeep v) f = reads-same ρ _ _ next bounded _ _ _ _ _ _ (h .reads)
@@ -148,15 +147,15 @@ module _
 
       begins-stands :
           (step : Step) → judged order (Begins step) .refusal ≡ accepted
-          → Standing ρ (begun order step) (carried (order .steps + 1) s (Begins step)) (stepped left m step) (wants entry number w step)
+          → Standing ρ (begun order step) (carried (order .steps + 1) s (Begins step)) (stepped leftBy m step) (wants entry number w step)
       begins-stands step good =
           let fit = line-fits order (Begins step) good in
           record {
             few = bounded;
             short = omega arith;
             acts = acts-step step;
-            named = named-begun step good;
-            asks = wants-stands chooses (order .steps) (order .steps + 1) next bounded (s .wanting) w (h .asks) step fit;
+            labelled = labelled-begun step good;
+            asks = wants-stands agrees (order .steps) (order .steps + 1) next bounded (s .wanting) w (h .asks) step fit;
             reads = reads-step step fit;
           }
 
@@ -178,7 +177,7 @@ module _
     reads-does n (UnifyLocalValue place) = h .reads
 
     own-number : number (m .steps) ≡ ρ (stepName (order .steps))
-    own-number = ap number (h .acts .steps) ∙ chooses .numbers (order .steps) (h .few)
+    own-number = ap number (h .acts .steps) ∙ agrees .numbers (order .steps)
 
     line-does :
         (instruction : Instruction) → judged order (Does instruction) .refusal ≡ accepted
@@ -187,22 +186,22 @@ module _
         let under = does-few order instruction good in
         let fit = line-fits order (Does instruction) good in
         let room : 2 * mostDone order + 2 ≤ pairCells = omega (arith, h .few) in
-        let in-head : isGetValueOrUnify instruction ≡ true → AllNamed (s .doing .places) =
-        λ demands. h .named (omega (arith, demands-in-head order instruction good demands)) in
+        let in-head : isGetValueOrUnify instruction ≡ true → AllLabelled (s .doing .places) =
+        λ demands. h .labelled (omega (arith, demands-in-head order instruction good demands)) in
         let acts-now = does-stands ρ (order .steps) (mostDone order) (s .doing) m (h .acts) (h .few) room instruction fit in-head in
         rw own-number
         record {
           few = h .few;
           short = omega arith;
           acts = acts-more ρ _ _ _ _ _ acts-now _ (omega arith) (omega arith);
-          named = λ e. does-named ρ (order .steps) (mostDone order) (s .doing) m (h .acts) (h .few) room (h .named e) instruction fit;
+          labelled = λ e. does-labelled ρ (order .steps) (mostDone order) (s .doing) m (h .acts) (h .few) room (h .labelled e) instruction fit;
           asks = h .asks;
           reads = reads-does _ instruction;
         }
 
 -- ---- A line that is accepted, and lines
 
-module _ {ρ : ℕ → ℕ} {entry : Contents} {number : ℕ → ℕ} {left : ℕ → ℕ → ℕ} (chooses : Chooses ρ entry number left) where
+module _ {ρ : ℕ → ℕ} {entry : Contents} {number : ℕ → ℕ} {leftBy : ℕ → ℕ → ℕ} (agrees : Agrees ρ entry number leftBy) where
   following-stands :
       (order : Order) (s : Symbols) (m : Machine) (w : Wanted) (line : CheckLine)
       → judged order line .refusal ≡ accepted → Standing ρ order s m w
@@ -210,12 +209,12 @@ module _ {ρ : ℕ → ℕ} {entry : Contents} {number : ℕ → ℕ} {left : �
       ρ
       (following order line)
       (carried (following order line .steps) s line)
-      (machineCarried number left m line)
+      (machineCarried number leftBy m line)
       (wantedBy entry number w line)
   following-stands order s m w (Begins step) good h =
       let few = begins-few order step good in
-      begins-stands chooses order s m w h (omega arith) step good
-  following-stands order s m w (Does instruction) good h = line-does chooses order s m w h instruction good
+      begins-stands agrees order s m w h (omega arith) step good
+  following-stands order s m w (Does instruction) good h = line-does agrees order s m w h instruction good
 
   line-stands :
       (order : Order) (s : Symbols) (m : Machine) (w : Wanted) (line : CheckLine)
@@ -224,18 +223,18 @@ module _ {ρ : ℕ → ℕ} {entry : Contents} {number : ℕ → ℕ} {left : �
       ρ
       (judged order line .order)
       (carried (judged order line .order .steps) s line)
-      (machineCarried number left m line)
+      (machineCarried number leftBy m line)
       (wantedBy entry number w line)
   line-stands order s m w line good h =
       subst
-      (λ (o : Order). Standing ρ o (carried (o .steps) s line) (machineCarried number left m line) (wantedBy entry number w line))
+      (λ (o : Order). Standing ρ o (carried (o .steps) s line) (machineCarried number leftBy m line) (wantedBy entry number w line))
       (sym (accepted-order order line good))
       (following-stands order s m w line good h)
 
   lines-stand :
       (order : Order) (s : Symbols) (m : Machine) (w : Wanted) (lines : List CheckLine)
       → allAccepted order lines ≡ true → Standing ρ order s m w
-      → (last : Order) × Standing ρ last (carriedAll order s lines) (runFrom number left m lines) (wantedFrom entry number w lines)
+      → (last : Order) × Standing ρ last (carriedAll order s lines) (runFrom number leftBy m lines) (wantedFrom entry number w lines)
   unfolding allAccepted carriedAll runFrom wantedFrom
   lines-stand order s m w [] e h = (order, h)
   lines-stand order s m w (line ∷ lines) e h =
@@ -249,19 +248,19 @@ module _ {ρ : ℕ → ℕ} {entry : Contents} {number : ℕ → ℕ} {left : �
 held-fresh : (place : RegType) → placeName place < placeCells → getD (numbersFrom 0 placeCells) (placeName place) 0 ≡ placeName place
 held-fresh place h = getD-numbers 0 placeCells (placeName place) 0 h ∙ omega arith
 
-fresh-named : AllNamed (numbersFrom 0 placeCells)
-fresh-named place h = omega (arith, held-fresh place (place-name place h), place-name place h)
+fresh-labelled : AllLabelled (numbersFrom 0 placeCells)
+fresh-labelled place h = omega (arith, held-fresh place (place-name place h), place-name place h)
 
 none-listed : {A : Type 0} (f : ℕ × ℕ → A) → _≡_ {A = List A} [] (map f (listed noPairs))
 unfolding listed pairsOf
 none-listed f = refl
 
-module _ {ρ : ℕ → ℕ} {entry : Contents} {number : ℕ → ℕ} {left : ℕ → ℕ → ℕ} (chooses : Chooses ρ entry number left) where
+module _ {ρ : ℕ → ℕ} {entry : Contents} {number : ℕ → ℕ} {leftBy : ℕ → ℕ → ℕ} (agrees : Agrees ρ entry number leftBy) where
   fresh-places : Places ρ (numbersFrom 0 placeCells) entry
   fresh-places =
       record {
         size = length-numbers 0 placeCells;
-        holds = λ place h. chooses .entries place h ∙ sym (ap ρ (held-fresh place (place-name place h)));
+        holds = λ place h. agrees .entries place h ∙ sym (ap ρ (held-fresh place (place-name place h)));
       }
 
   fresh-stands : Standing ρ freshOrder freshSymbols (atEntry entry) nothingWanted
@@ -275,18 +274,18 @@ module _ {ρ : ℕ → ℕ} {entry : Contents} {number : ℕ → ℕ} {left : �
               steps = refl;
               places = fresh-places;
               demands = table-fresh;
-              demands-named = refl;
+              demands-labelled = refl;
               made = table-fresh;
               equalities = none-listed (both ρ);
               subterms = none-listed (named ρ);
             };
-        named = λ e. fresh-named;
+        labelled = λ e. fresh-labelled;
         asks =
             record {
               steps = refl;
               values = record { size = length-replicate {A = ℕ} variables noName; stands = λ v h. getD-replicate {A = ℕ} variables v noName 0 h };
               wants = table-fresh;
-              wants-named = refl;
+              wants-labelled = refl;
               due = table-fresh;
               equalities = none-listed (both ρ);
               subterms = none-listed (named ρ);
@@ -315,28 +314,31 @@ pub record Stands (ρ : ℕ → ℕ) (s : Symbols) (m : Machine) (w : Wanted) : 
   pub read : m .read ≡ map (first ρ) (listed (s .claims))
   pub arguments : w .arguments ≡ map (second ρ) (listed (s .claims))
 
--- no table is ever full, and equalities are about names alone
+-- no table is ever full
 pub record Bounded (s : Symbols) : Type 0 where
   pub demands : Table (instructions * (steps + 1)) (s .doing .demands)
-  pub demands-named : inNames (listed (s .doing .demands)) ≡ true
   pub made : Table (instructions * (steps + 1)) (s .doing .made)
   pub wants : Table steps (s .wanting .wants)
-  pub wants-named : inNames (listed (s .wanting .wants)) ≡ true
   pub due : Table steps (s .wanting .due)
   pub claims : Table steps (s .claims)
 
+-- equalities are about names that have labels
+pub record Labelled (s : Symbols) : Type 0 where
+  pub demands : inNames (listed (s .doing .demands)) ≡ true
+  pub wants : inNames (listed (s .wanting .wants)) ≡ true
+
 module _ (lines : List CheckLine) (good : allAccepted freshOrder lines ≡ true) where
   at-end :
-      {ρ : ℕ → ℕ} {entry : Contents} {number : ℕ → ℕ} {left : ℕ → ℕ → ℕ} → Chooses ρ entry number left
-      → (last : Order) × Standing ρ last (symbolsOf lines) (run entry number left lines) (wantedOf entry number lines)
+      {ρ : ℕ → ℕ} {entry : Contents} {number : ℕ → ℕ} {leftBy : ℕ → ℕ → ℕ} → Agrees ρ entry number leftBy
+      → (last : Order) × Standing ρ last (symbolsOf lines) (run entry number leftBy lines) (wantedOf entry number lines)
   unfolding run wantedOf
-  at-end chooses = lines-stand chooses freshOrder freshSymbols (atEntry _) nothingWanted lines good (fresh-stands chooses)
+  at-end agrees = lines-stand agrees freshOrder freshSymbols (atEntry _) nothingWanted lines good (fresh-stands agrees)
 
   pub sheet-stands :
-      {ρ : ℕ → ℕ} {entry : Contents} {number : ℕ → ℕ} {left : ℕ → ℕ → ℕ} → Chooses ρ entry number left
-      → Stands ρ (symbolsOf lines) (run entry number left lines) (wantedOf entry number lines)
-  sheet-stands chooses =
-      let h = at-end chooses .1 in
+      {ρ : ℕ → ℕ} {entry : Contents} {number : ℕ → ℕ} {leftBy : ℕ → ℕ → ℕ} → Agrees ρ entry number leftBy
+      → Stands ρ (symbolsOf lines) (run entry number leftBy lines) (wantedOf entry number lines)
+  sheet-stands agrees =
+      let h = at-end agrees .1 in
       record {
         demands = h .acts .equalities;
         wants = h .asks .equalities;
@@ -348,13 +350,16 @@ module _ (lines : List CheckLine) (good : allAccepted freshOrder lines ≡ true)
 
   pub sheet-bounded : Bounded (symbolsOf lines)
   sheet-bounded =
-      let h = at-end (chooses-of (λ n. n)) .1 in
+      let h = at-end (values-agree (λ name. name)) .1 in
       record {
         demands = table-more _ (omega (arith, h .few, h .short)) (h .acts .demands);
-        demands-named = h .acts .demands-named;
         made = table-more _ (omega (arith, h .few, h .short)) (h .acts .made);
         wants = table-more _ (h .few) (h .asks .wants);
-        wants-named = h .asks .wants-named;
         due = table-more _ (h .few) (h .asks .due);
         claims = table-more _ (h .few) (h .reads .claims-table);
       }
+
+  pub sheet-labelled : Labelled (symbolsOf lines)
+  sheet-labelled =
+      let h = at-end (values-agree (λ name. name)) .1 in
+      record { demands = h .acts .demands-labelled; wants = h .asks .wants-labelled }

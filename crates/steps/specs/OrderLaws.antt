@@ -1,9 +1,9 @@
 -- Laws of judged lines: what an accepted line has passed, and what the order says after it.
 use Prim.Native.Nat.{ℕ, _≤_, _<_}
-use mathlib.Core.Path.{_≡_, refl, sym, _∙_}
+use mathlib.Core.Path.{_≡_, refl, sym, ap, _∙_}
 use mathlib.Core.Bool.{Bool, true, false, _&&_, _||_, false≢true}
 use native.Mathlib.Omega.{arith}
-use lib.Dec.{eqb, ltb}
+use lib.Dec.{eqb, leb, ltb}
 use borrow.Author.Tests.{leb-false, ltb-true, eqb-true, eq-eqb}
 use Rattle.notation.specs.Choice.{if_then_else_}
 use Rattle.notation.specs.ChoiceLaws.{both-true}
@@ -12,12 +12,11 @@ use Rattle.sizes.specs.Sizes.{registers, variables, steps, instructions, isRegi
 use Rattle.sizes.specs.SizesLaws.{register-exactly}
 use Rattle.instructions.specs.declared.Instruction.{Instruction}
 use Rattle.steps.specs.declared.Step.{Step}
-use Rattle.steps.specs.declared.Step.the-variants.{Head, HeadDeep, Goal, GoalDeep, Call}
 use Rattle.steps.specs.declared.CheckLine.{CheckLine}
 use Rattle.steps.specs.declared.CheckLine.the-variants.{Begins, Does}
 use Rattle.steps.specs.declared.Order.{Order}
-use Rattle.steps.specs.Steps.{isPutOrSet, isGetValueOrUnify, fits, firstOf}
-use Rattle.steps.specs.Order.{headStep, goalStep, kindOf, misplacedUnder, breaksOrder, overfills, refusalBy, following, judgedAs, judged}
+use Rattle.steps.specs.Steps.{isPutOrSet, isGetValueOrUnify, takesNumber, fits, firstOf}
+use Rattle.steps.specs.Order.{headStep, goalStep, stepBreaks, misplacedUnder, breaksOrder, overfills, refusalBy, following, judgedAs, judged}
 
 -- ---- What an accepted line has passed
 
@@ -39,7 +38,7 @@ module _ (order : Order) (line : CheckLine) (good : judged order line .refusal �
   unfolding judged judgedAs refusalBy
   passed = none-refuses (breaksOrder order line) (fits line) (overfills order line) good
 
-  pub line-in-order : breaksOrder order line ≡ false
+  line-in-order : breaksOrder order line ≡ false
   line-in-order = passed .0
 
   pub line-fits : fits line ≡ true
@@ -77,33 +76,37 @@ steps-kept order line h =
 
 -- ---- The head, before any goal step or `call`
 
+-- a step that could not follow a goal step or `call`
 pub head-goes-on :
-    (order : Order) (step : Step) → judged order (Begins step) .refusal ≡ accepted → kindOf step ≡ headStep → order .kind ≤ headStep
-head-goes-on order (Head k v) good e = omega (arith, leb-false goalStep (order .kind) (line-in-order order (Begins (Head k v)) good))
-head-goes-on order (HeadDeep v) good e = omega (arith, leb-false goalStep (order .kind) (line-in-order order (Begins (HeadDeep v)) good))
-head-goes-on order (Goal k v) good e = absurd (omega arith)
-head-goes-on order (GoalDeep v) good e = absurd (omega arith)
-head-goes-on order Call good e = absurd (omega arith)
-
-neither-first : (a b : Bool) → (a || b) ≡ false → a ≡ false
-neither-first true b h = absurd (false≢true (sym h))
-neither-first false b h = refl
+    (order : Order) (step : Step) → judged order (Begins step) .refusal ≡ accepted
+    → stepBreaks order step ≡ leb goalStep (order .kind) → order .kind ≤ headStep
+head-goes-on order step good e =
+    omega (arith, leb-false goalStep (order .kind) (sym e ∙ line-in-order order (Begins step) good))
 
 under-head :
-    (inHead inGoal other demands : Bool) → demands ≡ true → (if inHead then other else if inGoal then demands else true) ≡ false
-    → inHead ≡ true
-under-head true inGoal other demands e h = refl
-under-head false true other demands e h = absurd (false≢true (sym h ∙ e))
-under-head false false other demands e h = absurd (false≢true (sym h))
+    (inHead inGoal other demands taken : Bool) → demands ≡ true
+    → ((if inHead then other else if inGoal then demands else true) || taken) ≡ false → inHead ≡ true
+under-head true inGoal other demands taken e h = refl
+under-head false true other demands taken e h = absurd (false≢true (sym h ∙ ap (λ (t : Bool). t || taken) e))
+under-head false false other demands taken e h = absurd (false≢true (sym h))
 
--- equalities are demanded there alone
+-- equalities are demanded in the head alone
 pub demands-in-head :
     (order : Order) (instruction : Instruction) → judged order (Does instruction) .refusal ≡ accepted
     → isGetValueOrUnify instruction ≡ true → order .kind ≡ headStep
 unfolding misplacedUnder
 demands-in-head order instruction good demands =
-    let placed = neither-first (misplacedUnder (order .kind) instruction) _ (line-in-order order (Does instruction) good) in
-    eqb-true (order .kind) headStep (under-head _ (eqb (order .kind) goalStep) (isPutOrSet instruction) _ demands placed)
+    eqb-true
+    (order .kind)
+    headStep
+    (under-head
+    _
+    (eqb (order .kind) goalStep)
+    (isPutOrSet instruction)
+    _
+    (order .«number_taken» && takesNumber instruction)
+    demands
+    (line-in-order order (Does instruction) good))
 
 -- ---- The sizes as plain facts
 

@@ -1,7 +1,7 @@
 -- Names: a number for each thing that can be chosen, the entry content of a place, the number of a step, and what a call leaves
 -- in a register.
 use Prim.Native.Nat.{ℕ, _+_, _*_}
-use Rattle.sizes.specs.Sizes.{registers, variables, steps, instructions}
+use Rattle.sizes.specs.Sizes.{registers, steps, instructions}
 use Rattle.registers.specs.declared.RegType.{RegType}
 use Rattle.registers.specs.declared.RegType.the-variants.{Temp, Perm}
 
@@ -16,11 +16,12 @@ stepName step = 3 * step + 2
 abbrev pub placeCells : ℕ
 placeCells = 3 * (registers + 1)
 
--- a register's own name, moved up by all the places' cells for each step line up to the call: at entry it is as after a call 0
-abbrev pub leftName : ℕ → ℕ → ℕ
-leftName call r = placeCells * call + placeName (Temp r)
+-- of what a call leaves in a register: the register's own name, moved up by the places' cells as often as the call's step says.
+-- So the rest by 3 tells it from the name of a step, and at entry it would be as after a call 0
+abbrev pub callName : ℕ → ℕ → ℕ
+callName call r = placeCells * call + placeName (Temp r)
 
--- in the place of a variable's value that no step has fixed
+-- in the place of a variable's value that no step has fixed; a call may leave it in a register, but never as a variable's value
 abbrev pub noName : ℕ
 noName = 3 * (steps + 1)
 

@@ -1,7 +1,7 @@
--- The run of a check sheet on names: each place and each step's number stands for itself, and everything that the machine
--- ever holds is a name. Both sides of the sheet are carried along, line by line.
+-- The run of a check sheet on names: each place, each step's number and what a call leaves in each register stands for itself,
+-- and everything that the machine ever holds is a name. Both sides of the sheet are carried along, line by line.
 use Prim.Native.Nat.{ℕ, zero, suc, _+_}
-use mathlib.Core.Bool.{Bool, true, false, _&&_}
+use mathlib.Core.Bool.{Bool, true, _&&_}
 use mathlib.Core.List.{List, [], _∷_}
 use lib.Dec.{eqb, ltb}
 use lib.ListN.{getD, set, take, replicate}
@@ -21,7 +21,7 @@ use Rattle.steps.specs.declared.Order.{Order}
 use Rattle.steps.specs.declared.Judged.{Judged}
 use Rattle.steps.specs.Order.{judged}
 use Rattle.classes.specs.Classes.{pairsOf}
-use Rattle.symbolic.specs.Names.{placeName, stepName, placeCells, leftName, noName, pairCells}
+use Rattle.symbolic.specs.Names.{placeName, stepName, placeCells, callName, noName, pairCells}
 
 -- ---- Pairs of numbers in a table, two cells each, and how many cells count
 
@@ -75,18 +75,18 @@ did step d (UnifyVariable place) = doing (put (d .places) place (stepName step))
 did step d (UnifyValue place) = doing (d .places) (pushed (d .demands) (held (d .places) place) (stepName step)) (pushed (d .made) step (stepName step))
 did step d (UnifyLocalValue place) = doing (d .places) (pushed (d .demands) (held (d .places) place) (stepName step)) (pushed (d .made) step (stepName step))
 
--- in each register up to one, a name of its own is left by a call
+-- the registers from the first to the r-th hold, each, the name of what the call leaves there
 unfoldable pub spoiltUpTo : ℕ → ℕ → List ℕ → List ℕ
 spoiltUpTo call zero places = places
-spoiltUpTo call (suc r) places = put (spoiltUpTo call r places) (Temp (suc r)) (leftName call (suc r))
+spoiltUpTo call (suc r) places = put (spoiltUpTo call r places) (Temp (suc r)) (callName call (suc r))
 
--- `call` spoils all of them
-abbrev pub leftAt : ℕ → List ℕ → Step → List ℕ
-leftAt step places (Head k v) = places
-leftAt step places (HeadDeep v) = places
-leftAt step places (Goal k v) = places
-leftAt step places (GoalDeep v) = places
-leftAt step places Call = spoiltUpTo step registers places
+-- `call` spoils them all
+abbrev pub spoiltAt : ℕ → List ℕ → Step → List ℕ
+spoiltAt step places (Head k v) = places
+spoiltAt step places (HeadDeep v) = places
+spoiltAt step places (Goal k v) = places
+spoiltAt step places (GoalDeep v) = places
+spoiltAt step places Call = spoiltUpTo step registers places
 
 -- ---- What the steps want
 
@@ -155,7 +155,7 @@ symbols doing wanting claims = record { doing = doing; wanting = wanting; claims
 abbrev pub carried : ℕ → Symbols → CheckLine → Symbols
 carried step s (Begins begins) =
     symbols
-    (doing (leftAt step (s .doing .places) begins) (s .doing .demands) (s .doing .made))
+    (doing (spoiltAt step (s .doing .places) begins) (s .doing .demands) (s .doing .made))
     (wanted step (s .wanting) begins)
     (claimedAt (s .doing .places) (s .claims) (s .wanting .goal) begins)
 carried step s (Does instruction) = symbols (did step (s .doing) instruction) (s .wanting) (s .claims)

@@ -8,8 +8,8 @@ use native.Mathlib.Nat.{add-zero, zero-add}
 use native.Mathlib.Numerals.{add-one}
 use native.Mathlib.Omega.{arith}
 use borrow.Author.Tests.{le-ltb, lt-ltb, eq-eqb, ne-eqb}
-use lib.ListN.{length, getD, set, take, drop, replicate, length-drop, length-set}
-use lib.Seq.{drop-cons, set-getD, take-all, take-suc-set}
+use lib.ListN.{length, getD, set, take, drop, replicate, length-set}
+use lib.Seq.{set-getD, take-all, take-suc-set}
 use Rattle.notation.specs.Lists.{numbersFrom}
 use Rattle.refusals.specs.Refusals.{accepted, refusedFull}
 use Rattle.sizes.specs.Sizes.{registers, variables, steps}
@@ -25,8 +25,8 @@ use Rattle.steps.specs.Order.{judged}
 use Rattle.steps.specs.OrderLaws.{argument-and-variable, line-fits, steps-kept}
 use Rattle.classes.specs.Classes.{pairsOf}
 use Rattle.classes.specs.ClassesLaws.{pairs-next, pairs-end}
-use Rattle.symbolic.specs.Names.{placeName, placeCells, leftName, pairCells, noName}
-use Rattle.symbolic.specs.Symbolic.{Pairs, pairs, pushed, listed, doing, held, put, spoiltUpTo, leftAt, Wanting, valueOf, wanted, claimed, claimedAt, Symbols, symbols, carried, freshSymbols, taking, takenAs, taken}
+use Rattle.symbolic.specs.Names.{placeName, placeCells, callName, pairCells, noName}
+use Rattle.symbolic.specs.Symbolic.{Pairs, pairs, pushed, listed, doing, held, put, spoiltUpTo, spoiltAt, Wanting, valueOf, wanted, claimed, claimedAt, Symbols, symbols, carried, freshSymbols, taking, takenAs, taken}
 use Rattle.symbolic.specs.Tables.{symbolsOf, freshCounts}
 
 -- ---- A pair more
@@ -72,7 +72,7 @@ module _ (call : ℕ) (places : List ℕ) where
   spoilt-none = refl
 
   pub spoilt-more :
-      (r : ℕ) {name : ℕ} {now after : List ℕ} → now ≡ spoiltUpTo call r places → name ≡ leftName call (r + 1)
+      (r : ℕ) {name : ℕ} {now after : List ℕ} → now ≡ spoiltUpTo call r places → name ≡ callName call (r + 1)
       → after ≡ put now (Temp (r + 1)) name → after ≡ spoiltUpTo call (r + 1) places
   unfolding spoiltUpTo
   spoilt-more r spoilt named puts = rw (puts, spoilt, named, add-one r)
@@ -81,7 +81,7 @@ module _ (call : ℕ) (places : List ℕ) where
   unfolding spoiltUpTo
   length-spoilt zero = refl
   length-spoilt (suc r) =
-      length-set (spoiltUpTo call r places) (placeName (Temp (suc r))) (leftName call (suc r)) ∙ length-spoilt r
+      length-set (spoiltUpTo call r places) (placeName (Temp (suc r))) (callName call (suc r)) ∙ length-spoilt r
 
 -- ---- A variable's value
 
@@ -123,15 +123,15 @@ head-register {k} {v} told fits = argument-and-variable k v (sym (ap stepFits to
 pub begins-fits : {line : CheckLine} {begins : Step} → line ≡ Begins begins → fits line ≡ true → stepFits begins ≡ true
 begins-fits told good = sym (ap fits told) ∙ good
 
--- a step line is carried out where its parts are
+-- a step line from its parts: what is claimed, what is wanted, and what the places hold
 module _ (step : ℕ) (s : Symbols) where
   pub carried-begins :
       {line : CheckLine} {begins : Step} {places : List ℕ} {before after : Wanting} {claims : Pairs} → line ≡ Begins begins
       → claims ≡ claimedAt (s .doing .places) (s .claims) (s .wanting .goal) begins
       → after ≡ wanted step before begins → before ≡ s .wanting
-      → places ≡ leftAt step (s .doing .places) begins
+      → places ≡ spoiltAt step (s .doing .places) begins
       → symbols (doing places (s .doing .demands) (s .doing .made)) after claims ≡ carried step s line
-  carried-begins told claimed wants same left = rw (told, claimed, wants, same, left)
+  carried-begins told claimed wants same spoils = rw (told, claimed, wants, same, spoils)
 
 -- what is judged accepted is inside its sizes
 module _ (order : Order) (line : CheckLine) {j : Judged} (judges : j ≡ judged order line) where

@@ -8,7 +8,7 @@ ghost use Rattle.sizes.specs.Sizes.{registers, steps as stepLines};
 ghost use Rattle.registers.specs.declared.RegType.the-variants.{Temp};
 ghost use Rattle.steps.specs.Steps.{stepFits, fits};
 ghost use Rattle.classes.specs.Classes.{pairsOf};
-ghost use Rattle.symbolic.specs.Names.{placeName, stepName, placeCells, leftName};
+ghost use Rattle.symbolic.specs.Names.{placeName, stepName, placeCells, callName};
 ghost use Rattle.symbolic.specs.Symbolic.{
   pairs,
   pushed,
@@ -17,7 +17,7 @@ ghost use Rattle.symbolic.specs.Symbolic.{
   put,
   did,
   spoiltUpTo,
-  leftAt,
+  spoiltAt,
   valueOf,
   again,
   wanted,
@@ -120,9 +120,9 @@ fn step_name(step: u32) -> u32
 }
 
 // The name of what a call leaves in a register.
-fn left_name(call: u32, r: u32) -> u32
+fn call_name(call: u32, r: u32) -> u32
     requires { ⌜ (call ≤ stepLines) × (r ≤ registers) ⌝ }
-    ensures { λ n. ⌜ n ≡ leftName call r ⌝ }
+    ensures { λ n. ⌜ n ≡ callName call r ⌝ }
 {
     PLACE_CELLS as u32 * call + 3 * r
 }
@@ -342,21 +342,7 @@ fn spoil(places: &mut [u32], call: u32)
     let mut r: u32 = 0;
     while r < LAST_REGISTER {
         r += 1;
-        put(places, RegType::Temp(r), left_name(call, r));
-    }
-}
-
-// The same at `call`, and nothing at another step.
-fn spoil_at(places: &mut Places, step: u32, begins: Step)
-    requires { ⌜ step ≤ stepLines ⌝ }
-    ensures { λ _. ⌜ now (places .exit) ≡ leftAt step (now (places .entry)) begins ⌝ }
-{
-    match begins {
-        Step::Head(_, _) => {}
-        Step::HeadDeep(_) => {}
-        Step::Goal(_, _) => {}
-        Step::GoalDeep(_) => {}
-        Step::Call => spoil(places, step),
+        put(places, RegType::Temp(r), call_name(call, r));
     }
 }
 
@@ -477,23 +463,30 @@ fn claim_goal(
     claim(places, goal, claims, count)
 }
 
-// The same at `call`, and nothing at another step.
-fn claim_at(
-    places: &Places,
+// At `call`, claims the arguments of this goal and then spoils the registers; at another step nothing.
+fn call_at(
+    places: &mut Places,
     goal: &PairCells,
     arguments: usize,
     claims: &mut PairCells,
     count: usize,
+    step: u32,
     begins: Step,
 ) -> usize
+    requires { ⌜ step ≤ stepLines ⌝ }
     ensures { λ r. ⌜ pairs (now (claims .exit)) r ≡ claimedAt (now (places .entry)) (pairs (now (claims .entry)) count) (pairs (now (goal .entry)) arguments) begins ⌝ }
+    ensures { λ _. ⌜ now (places .exit) ≡ spoiltAt step (now (places .entry)) begins ⌝ }
 {
     match begins {
         Step::Head(_, _) => count,
         Step::HeadDeep(_) => count,
         Step::Goal(_, _) => count,
         Step::GoalDeep(_) => count,
-        Step::Call => claim_goal(places, goal, arguments, claims, count),
+        Step::Call => {
+            let claimed = claim_goal(places, goal, arguments, claims, count);
+            spoil(places, step);
+            claimed
+        }
     }
 }
 
@@ -546,11 +539,17 @@ fn carry(
 {
     match line {
         CheckLine::Begins(begins) => {
-            let claimed = claim_at(places, goal, counts.goal, claims, counts.claims, begins);
+            let claimed = call_at(
+                places,
+                goal,
+                counts.goal,
+                claims,
+                counts.claims,
+                step,
+                begins,
+            );
             let before = wanted_counts(counts.wants, counts.due, counts.goal);
             let after = want(values, wants, due, goal, before, step, begins);
-            // Behind the claims, which are about what the registers hold before.
-            spoil_at(places, step, begins);
             after_step(counts, after, claimed)
         }
         CheckLine::Does(instruction) => {

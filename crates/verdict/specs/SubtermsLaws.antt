@@ -5,7 +5,7 @@ use mathlib.Core.Bool.{Bool, true, false}
 use mathlib.Core.List.{List}
 use lib.Dec.{leb}
 use lib.ListN.{length, getD, drop}
-use borrow.Author.Tests.{le-leb, lt-leb, eq-eqb, ne-eqb, leb-true, leb-false}
+use borrow.Author.Tests.{eq-eqb, ne-eqb, leb-true, leb-false}
 use Rattle.classes.specs.Classes.{pairsOf, labelOf}
 use Rattle.classes.specs.ClassesLaws.{pairs-next, pairs-end}
 use Rattle.verdict.specs.Verdict.{sameSubterms}

@@ -1,13 +1,12 @@
 -- The verdict says exactly whether the instructions of a check sheet are right.
 use Prim.Native.Nat.{ℕ}
-use mathlib.Core.Path.{_≡_, refl, sym, ap, _∙_}
-use mathlib.Core.Bool.{Bool, true, false, _&&_, false≢true}
+use mathlib.Core.Path.{_≡_, refl, sym, ap}
+use mathlib.Core.Bool.{Bool, true, false, false≢true}
 use mathlib.Core.List.{List, [], _∷_, map}
 use mathlib.Core.Logic.{_↔_}
-use lib.Dec.{eqb}
 use borrow.Author.Tests.{eq-eqb, eqb-true}
 use Rattle.notation.specs.ChoiceLaws.{both-true}
-use Rattle.classes.specs.Classes.{inNames, labelOf, labelling, allSame}
+use Rattle.classes.specs.Classes.{inNames, labelOf, labelling}
 use Rattle.classes.specs.Forces.{Holds}
 use Rattle.classes.specs.ForcesLaws.{labels-hold, labels-force, all-same-forced, forced-all-same}
 use Rattle.steps.specs.declared.CheckLine.{CheckLine}
@@ -15,7 +14,7 @@ use Rattle.steps.specs.Order.{freshOrder}
 use Rattle.machine.specs.Right.{Right}
 use Rattle.symbolic.specs.Symbolic.{Symbols, listed, allAccepted}
 use Rattle.on_names.specs.OnNames.{symbolsOf, named, RightOnNames}
-use Rattle.on_names.specs.StandsLaws.{sheet-bounded}
+use Rattle.on_names.specs.StandsLaws.{sheet-labelled}
 use Rattle.on_names.specs.NamesLaws.{claims-hold, right-on-names}
 use Rattle.verdict.specs.Verdict.{sameSubterms, decidedBy, decided}
 
@@ -102,7 +101,7 @@ verdict-exactly lines good = (
   λ e. right-on-names lines good .1 (decided-right (symbolsOf lines) e),
   λ right. right-decided
       (symbolsOf lines)
-      (sheet-bounded lines good .demands-named)
-      (sheet-bounded lines good .wants-named)
+      (sheet-labelled lines good .demands)
+      (sheet-labelled lines good .wants)
       (right-on-names lines good .0 right),
 )

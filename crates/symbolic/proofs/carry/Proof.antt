@@ -7,17 +7,14 @@ use Rattle.symbolic.proofs.carry.Tie as tie
 enum-known-line : tie.Need-enum-known-line
 enum-known-line c = search needs
 
-claim-at-requires : tie.Need-claim-at-requires
-claim-at-requires c κs = search needs
+call-at-requires : tie.Need-call-at-requires
+call-at-requires c κs = search needs
 
 wanted-counts-requires : tie.Need-wanted-counts-requires
 wanted-counts-requires c κs = search needs
 
 want-requires : tie.Need-want-requires
 want-requires c κs = (search needs, begins-fits (c .before .before .before .before .before .before .before .before .before .before .line .given .1) (c .before .before .before .before .before .before .before .before .before .before .before .before .pre .1))
-
-spoil-at-requires : tie.Need-spoil-at-requires
-spoil-at-requires c κs = search needs
 
 after-step-requires : tie.Need-after-step-requires
 after-step-requires c κs = search needs
@@ -37,11 +34,11 @@ returns c =
     (carried-begins
     _
     _
-    (c .before .before .before .before .before .before .before .before .before .before .before .before .before .before .line .given .1)
-    (c .before .before .before .before .before .before .before .before .before .claim-at .ensures)
-    (c .before .before .before .want .ensures)
-    (rw (c .before .before .before .before .before .before .before .before .wanted-counts .ensures))
-    (c .before .spoil-at .ensures))
+    (c .before .before .before .before .before .before .before .before .before .before .before .before .line .given .1)
+    (c .before .before .before .before .before .before .before .call-at .ensures .0)
+    (c .before .want .ensures)
+    (rw (c .before .before .before .before .before .before .wanted-counts .ensures))
+    (c .before .before .before .before .before .before .before .call-at .ensures .1))
 
 returns-2 : tie.Need-returns-2
 returns-2 c =
@@ -56,10 +53,9 @@ carry-spec =
     tie.close
     (tie.spec
     enum-known-line
-    claim-at-requires
+    call-at-requires
     wanted-counts-requires
     want-requires
-    spoil-at-requires
     after-step-requires
     enum-known-line-2
     does-requires

@@ -1,8 +1,7 @@
 -- `symbolic::claim_goal`: the cells that count, which are all where the count is past the table's end. Assumes nothing.
-use mathlib.Core.Path.{sym, ap, _∙_}
 use native.Mathlib.Nat.{sub-zero}
 use borrow.Author.Needs.{needs}
-use Rattle.symbolic.specs.Symbolic.{listed, claimed}
+use Rattle.symbolic.specs.Symbolic.{listed}
 use Rattle.symbolic.specs.TablesLaws.{listed-all}
 use Rattle.symbolic.proofs.claim_goal.Statement.{statement}
 use Rattle.symbolic.proofs.claim_goal.Tie as tie

@@ -22,8 +22,8 @@ loop-holds c = (omega arith, spoilt-none _ _)
 add-r : tie.Need-add-r Inv-loop μ-loop
 add-r c = search needs
 
-left-name-requires : tie.Need-left-name-requires Inv-loop μ-loop
-left-name-requires c κs = search needs
+call-name-requires : tie.Need-call-name-requires Inv-loop μ-loop
+call-name-requires c κs = search needs
 
 put-requires : tie.Need-put-requires Inv-loop μ-loop
 put-requires c κs = search needs
@@ -34,7 +34,7 @@ loop-less c = search needs
 loop-again : tie.Need-loop-again Inv-loop μ-loop
 loop-again c =
     let l = c .before .before .before .before .before .before .loop in
-    let more = spoilt-more _ _ (l .r) (l .inv .1) (c .before .before .before .left-name .ensures) (c .before .before .put .ensures) in
+    let more = spoilt-more _ _ (l .r) (l .inv .1) (c .before .before .before .call-name .ensures) (c .before .before .put .ensures) in
     (omega arith, more)
 
 same-length : tie.Need-same-length Inv-loop μ-loop
@@ -57,7 +57,7 @@ spoil-spec =
     μ-loop
     loop-holds
     add-r
-    left-name-requires
+    call-name-requires
     put-requires
     loop-less
     loop-again
