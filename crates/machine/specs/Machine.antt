@@ -116,7 +116,7 @@ does n m (SetLocalValue place) = adds m (m .contents place)
 does n m (UnifyValue place) = adds (demands m (m .contents place) n) n
 does n m (UnifyLocalValue place) = adds (demands m (m .contents place) n) n
 
--- what each step line does: `call` reads the arguments, then spoils the registers; it is known by its step's number
+-- what each step line does: `call` reads the arguments, then spoils the registers; the count of step lines tells calls apart
 abbrev pub stepped : (ℕ → ℕ → ℕ) → Machine → Step → Machine
 stepped leftBy m (Head k v) = begins m (m .contents) (m .goal) (m .read)
 stepped leftBy m (HeadDeep v) = begins m (m .contents) (m .goal) (m .read)

@@ -16,8 +16,8 @@ stepName step = 3 * step + 2
 abbrev pub placeCells : ℕ
 placeCells = 3 * (registers + 1)
 
--- of what a call leaves in a register: the register's own name, moved up by the places' cells as often as the call's step says.
--- So the rest by 3 tells it from the name of a step, and at entry it would be as after a call 0
+-- of what a call leaves in a register: the register's own name, moved up by the places' cells as often as there are step lines up
+-- to the call. So the rest by 3 tells it from the name of a step, and entry is as it were a call 0
 abbrev pub callName : ℕ → ℕ → ℕ
 callName call r = placeCells * call + placeName (Temp r)
 
