@@ -202,8 +202,8 @@ static unsigned long last_register(const Call *whole)
     return at == 0 ? 1 : strtoul((const char *)whole->sheet + at, NULL, 10);
 }
 
-/* No answer may come from what a register held before a call: it stays where behind each call another register is copied
- * over that one, under the next step, unless that has as many instructions as it may. */
+/* What a register held before a call must not matter: the answer stays the same where, under the first step after each call,
+ * another register is copied over it. A step that is full already refuses the copy. */
 static void hold_spoilt(const Call *whole)
 {
     enum { CALL = sizeof "call\n" - 1, COPY = sizeof "get_variable\tx63\t63\n" };

@@ -268,7 +268,7 @@ static const struct verdict {
     {"a register written behind the call", "call\ng\t1\t0\nput_variable\tx5\t1\ng\t2\t0\nput_value\tx5\t2\ncall\n", 1},
 };
 
-/* A head step, so many calls that a sheet may have no further step, and a goal. */
+/* A head step, as many calls as then fit on a sheet, and a goal with its call. */
 static void expect_behind_calls(const char *what, const char *head, const char *goal, int accepted)
 {
     char sheet[2048];

@@ -187,7 +187,7 @@ const VERDICTS: [(&str, bool); 9] = [
         "g 1 0\nput_variable y1 1\ncall\ng 1 0\nput_value y1 1\ncall\n",
         true,
     ),
-    // A call with no goal steps, and none.
+    // A call with no goal steps, and the same sheet without it.
     ("h 1 0\ncall\ng 1 0\ncall\n", false),
     ("h 1 0\ng 1 0\ncall\n", true),
     // A subterm read behind a call, and before it.
@@ -231,7 +231,7 @@ fn spoilt_registers(counts: &mut Counts) {
         let (kept, put) = (format!("get_variable y{k} 1"), format!("put_value y{k} 1"));
         expect(&format!("h 1 0\n{kept}\ncall\ng 1 0\n{put}\ncall\n"), true);
     }
-    // As many calls as a sheet may have beside a head step and a goal, and as many as it may have.
+    // As many calls as fit between a head step and a goal; and a sheet of nothing but calls.
     let calls = "call\n".repeat(253);
     expect(&format!("h 1 0\n{calls}g 1 0\ncall\n"), false);
     let (kept, put) = ("get_variable y63 1", "put_value y63 1");

@@ -106,8 +106,8 @@ enum {
  * Where it is FENOMIRASK_NO_ROOM, the same sheet with more room is answered; answers may be longer than sheets. */
 int64_t fenomirask_events(const uint8_t *sheet, size_t sheet_bytes, uint8_t *out, size_t out_bytes);
 
-/* The answer to a check sheet: `accepted` or `rejected`, and an LF. A `call` leaves an arbitrary number in every register,
- * when it has read its arguments; what is needed behind it has to stand in a slot. */
+/* The answer to a check sheet: `accepted` or `rejected`, and an LF. A `call` reads its arguments and then leaves an arbitrary
+ * number in every register; what is needed after it has to stand in a slot. */
 int64_t fenomirask_check(const uint8_t *sheet, size_t sheet_bytes, uint8_t *out, size_t out_bytes);
 
 /* The answer to a bundle, in which a line `clause` begins each clause: for each in turn the answer of fenomirask_events to

@@ -16,12 +16,13 @@ stepName step = 3 * step + 2
 abbrev pub placeCells : ℕ
 placeCells = 3 * (registers + 1)
 
--- of what a call leaves in a register: the register's own name, moved up by the places' cells as often as there are step lines up
--- to the call. So the rest by 3 tells it from the name of a step, and entry is as it were a call 0
+-- of what a call leaves in a register: the register's own name, moved up by the places' cells as many times as there are step
+-- lines up to the call. So the rest by 3 tells it from the name of a step, and entry counts as a call 0
 abbrev pub callName : ℕ → ℕ → ℕ
 callName call r = placeCells * call + placeName (Temp r)
 
--- in the place of a variable's value that no step has fixed; a call may leave it in a register, but never as a variable's value
+-- in the place of a variable's value that no step has fixed; the same number may name what a call left in a register, which is
+-- never a variable's value
 abbrev pub noName : ℕ
 noName = 3 * (steps + 1)
 
