@@ -9,7 +9,7 @@ import os
 import subprocess
 import time
 
-from replaying import ROOT
+from helpers.replaying import ROOT
 
 PROGRAMS = os.environ.get("SPEED_PROGRAMS") or os.path.join(ROOT, "target", "bin")
 EMPTY = "#include <unistd.h>\nint main(void) { return write(1, \"\", 1) != 1; }\n"

@@ -22,7 +22,7 @@ import os
 import re
 import shutil
 
-ROOT = os.path.dirname(os.path.dirname(os.path.abspath(__file__)))
+ROOT = os.path.dirname(os.path.dirname(os.path.dirname(os.path.abspath(__file__))))
 CRATES = os.path.join(ROOT, "crates")
 ENTRIES = os.path.join(ROOT, "tests", "wrong")
 SHOWN = os.path.join(ROOT, "target", "wrong_runs")

@@ -1,7 +1,7 @@
 """The sheets that tests/speed measures, the same ones in each run. In lines, blanks stand for tabs."""
 import itertools
 
-from replaying import CLAUSE, ORACLE, SHEET_BYTES, bundle_of, frames, judged_events, output
+from helpers.replaying import CLAUSE, ORACLE, SHEET_BYTES, bundle_of, frames, judged_events, output
 
 SMALL = 2_000  # small sheets
 SMALL_LINES = range(10, 41)

@@ -13,8 +13,9 @@ import sys
 import time
 from collections.abc import Callable
 
-HERE = os.path.dirname(os.path.abspath(__file__))
-ROOT = os.path.dirname(HERE)
+HELPERS = os.path.dirname(os.path.abspath(__file__))
+TESTS = os.path.dirname(HELPERS)
+ROOT = os.path.dirname(TESTS)
 ORACLE = os.path.join(ROOT, "oracle", "target", "release")
 DECIDER = os.path.join(ROOT, "decider", "target", "release")
 BUNDLE_CASES = os.path.join(ROOT, "oracle", "cases", "bundles.txt")
@@ -270,7 +271,7 @@ BUNDLES = Kind(
 
 
 def program(name, data):
-    return output([os.path.join(HERE, "program"), name], data)
+    return output([os.path.join(TESTS, "program"), name], data)
 
 
 def replayed(word, sheets, answers):
@@ -336,7 +337,7 @@ def run_malformed():
 
 def in_pieces(name, data, sizes):
     """What a program prints of input that comes in pieces of the sizes, with pauses between, and then the rest."""
-    words = [os.path.join(HERE, "program"), name]
+    words = [os.path.join(TESTS, "program"), name]
     run = subprocess.Popen(words, env=ENVIRONMENT, stdin=subprocess.PIPE, stdout=subprocess.PIPE)
     at = 0
     for size in sizes:
