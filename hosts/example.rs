@@ -25,7 +25,7 @@ fn read(source: impl Read) -> io::Result<Vec<u8>> {
 }
 
 /// A standard stream as a file. Rust's own `Stdin` reads nothing where the stream is not open for reading, and its `Stdout`
-/// says that all was written where it is not open for writing; a file tells both. A stream that is closed before the start
+/// says that all was written where it is not open for writing; a file says both. A stream that is closed before the start
 /// is the null device by the time that `main` runs: then the sheet is an empty one.
 fn file(stream: BorrowedFd) -> io::Result<File> {
     stream.try_clone_to_owned().map(File::from)

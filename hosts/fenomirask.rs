@@ -12,7 +12,7 @@ pub const SHEET_BYTES: usize = 65_536;
 /// No event prints more, nor does the end of a clause.
 pub const EVENT_ROOM: usize = 256;
 
-/// The refusal numbers, as document 01 gives them.
+/// The refusal numbers: rules 4.1 to 4.9 of docs/RULES.md.
 #[derive(Clone, Copy, Debug, PartialEq, Eq)]
 pub enum Refusal {
     UnknownForm = 1,
@@ -78,7 +78,7 @@ impl fmt::Display for Refused {
 
 impl std::error::Error for Refused {}
 
-/// A safety, as `FenomiraskSafety` of include/fenomirask.h, which tells what the numbers mean here and below.
+/// A safety, as `FenomiraskSafety` of include/fenomirask.h, which says what the numbers mean here and below.
 #[derive(Clone, Copy, Debug, PartialEq, Eq)]
 #[repr(C)]
 pub struct Safety {

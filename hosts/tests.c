@@ -5,9 +5,9 @@
  * A stream holds sheets with their answers, each led by a line: the kind, `events`, `check` or `bundle`, the bytes of the
  * sheet and those of the answer. Each call is made three times: the lent parts stand at the start of memory that may be
  * touched, at its end, and between guard bytes. Afterwards the sheet and every byte that the answer does not name must
- * be as they were. Each event sheet is also given line by line, its lines at these places in turn, and has to come to
- * the same; and as a clause of bundles, which have to come to what their clauses do, as those of the stream have. Prints
- * what fails, and last how many calls passed and failed; exit 1 if any failed or a stream is malformed.
+ * be as they were. Each event sheet is also given line by line, its lines at these places in turn, and has to give the
+ * same; and as a clause of bundles, which have to give what their clauses do, as those of the stream have. Prints what
+ * fails, and last how many calls passed and failed; exit 1 if any failed or a stream is malformed.
  */
 #define _DEFAULT_SOURCE
 #include <pthread.h>
@@ -193,7 +193,7 @@ static size_t next_line(const uint8_t *sheet, size_t sheet_bytes, size_t at)
     return feed == NULL ? sheet_bytes : (size_t)(feed - sheet) + 1;
 }
 
-/* Document 01's sheet 1, and what it prints. */
+/* The sheet of rule 24.1, and what it prints. */
 static const char first[] = "temp\tl1\t1\tl1:2\nperm\t1\nhead\t0\t1\nvar\tf\ts\th\t0\nvar\tf\ts\th\t1\n";
 static const char first_ends[] = "at\tx1\nget_variable\ty1\t2\nat\ty1\nend\t3\t1\n";
 
@@ -313,7 +313,7 @@ static int same_state(const FenomiraskState *a, const FenomiraskState *b)
 }
 
 /* One call with lent parts, fenomirask_event or, where `line` is NULL, fenomirask_end. Afterwards `state` is the state
- * and `text` what was written. `*kept` tells whether all that may not change is as it was. */
+ * and `text` what was written. `*kept` says whether all that may not change is as it was. */
 static int64_t call(FenomiraskState *state, const void *line, size_t line_bytes, size_t room, enum placement placement,
                     uint8_t *text, int *kept)
 {
@@ -400,7 +400,7 @@ static void expect_number(const char *what, uint64_t got, uint64_t wanted)
 }
 #define EXPECT(field, wanted) expect_number(#field, s.field, wanted)
 
-/* A fresh clause over any bytes: all numbers are as the header tells. */
+/* A fresh clause over any bytes: all numbers are as the header says. */
 static void fresh_states(void)
 {
     static const uint8_t over[] = {0x00, 0xAA, 0xFF};
@@ -1331,7 +1331,7 @@ static int64_t in_bundle(const uint8_t *sheet, size_t sheet_bytes, uint8_t *out,
     return got < 0 ? got : wanted_of(&functions[EVENTS], out, (size_t)got);
 }
 
-/* Whose sheets a thread takes, and how it comes to the answers. */
+/* Whose sheets a thread takes, and how it gets the answers. */
 static const struct work {
     const struct function *function;
     sheet_function *answer;

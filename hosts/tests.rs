@@ -5,7 +5,7 @@
 //! A stream holds sheets with their answers, each led by a line: the kind, `events`, `check` or `bundle`, the bytes of the
 //! sheet and those of the answer. The sheet and the room for the answer are lent between guard bytes; afterwards the
 //! sheet and every byte that the answer does not name must be as they were. Each event sheet is also given line by line,
-//! and has to come to the same; and as a clause of bundles, which have to come to what their clauses do, as those of the
+//! and has to give the same; and as a clause of bundles, which have to give what their clauses do, as those of the
 //! stream have. Prints what fails, and last how many calls passed and failed; exit 1 if any failed or a stream is
 //! malformed.
 use std::process::exit;
@@ -178,7 +178,7 @@ fn whole_sheets(counts: &mut Counts) {
 
 /// Check sheets, blanks standing for tabs, and whether they are accepted.
 const VERDICTS: [(&str, bool); 9] = [
-    // Sheet 12, and the same with a slot.
+    // The sheets of rule 24.12.
     (
         "g 1 0\nput_variable x5 1\ncall\ng 1 0\nput_value x5 1\ncall\n",
         false,
@@ -365,7 +365,7 @@ impl Counts {
     }
 }
 
-/// A fresh state, as include/fenomirask.h tells it.
+/// A fresh state, as include/fenomirask.h has it.
 fn fresh_state() -> State {
     let safety = Safety {
         code: 0,

@@ -1,8 +1,7 @@
 /* Fenomirask for a C host: the static library libfenomirask.a, x86-64.
  *
  * Fenomirask chooses the registers for Prolog clauses, and checks that compiled instructions put each variable where it
- * belongs. What a sheet is, and what each answer means, is in document 01, "Registers for Prolog clauses, and the check
- * sheet"; what a call leaves in the registers of a check sheet, in document 02, b, and what a bundle is, in c.
+ * belongs. What a sheet is, and what each answer means, is in docs/RULES.md; sections 17 and 23 there are about this library.
  *
  * Every function takes parts of memory that the host lends for the time of the call, each as a pointer and a count of
  * bytes. The host sees to it that
@@ -31,8 +30,8 @@ extern "C" {
  *
  * An answer that is not negative is the count of bytes written to the start of `out`; the bytes past them are as they
  * were. A negative answer is a refusal, -(16 * line + refusal), and every byte of `out` is as it was. Lines count from
- * 1; line 0 stands for the whole sheet or bundle. In a sheet the first bad line decides, and in a line the order of
- * document 01. A call with one line counts it as line 1; there line 0 stands for the state, the length or the room.
+ * 1; line 0 stands for the whole sheet or bundle. In a sheet the first bad line decides, and in a line the order is that of
+ * rule 4.12. A call with one line counts it as line 1; there line 0 stands for the state, the length or the room.
  */
 
 /* Whether an answer is a refusal. */
@@ -44,26 +43,26 @@ extern "C" {
 /* The number of a refusal, one of FenomiraskRefusal. Only for an answer that is a refusal. */
 #define FENOMIRASK_REFUSAL(answer) ((int)(-(answer) % 16))
 
-/* The refusal numbers, as document 01 gives them. */
+/* The refusal numbers: rules 4.1 to 4.9. */
 enum FenomiraskRefusal {
-    /* a line's word, field count or field form is unknown, or it has no LF */
+    /* a line's word, its count of fields or the form of one is none that a rule gives, or its LF is missing */
     FENOMIRASK_UNKNOWN_FORM = 1,
-    /* lines stand in a forbidden order */
+    /* a line may not stand behind those before it */
     FENOMIRASK_FORBIDDEN_ORDER = 2,
-    /* a number is outside its size or names no variable */
+    /* a number is outside its size, or of a variable that has no record */
     FENOMIRASK_OUTSIDE_SIZE = 3,
-    /* the Rust would stop: `arm` or `take` with no open branch; `close` deeper than the stack or naming a temporary; an
-     * occurrence recorded at an arm index not below the arm count; `safe` on a Pending variable */
+    /* the original stops here: `arm` or `take` while no branch is open; `close` of more branches than are open, or of a
+     * temporary; an occurrence to be recorded past the last arm; `safe` of a variable that is Pending */
     FENOMIRASK_RUST_STOPS = 4,
-    /* no register up to 63 meets the search rule */
+    /* no register up to 63 can be chosen */
     FENOMIRASK_NO_REGISTER = 5,
-    /* no freed slot qualifies and the next new slot is 64 */
+    /* the queue gives no slot, and slots up to 63 are given out */
     FENOMIRASK_NO_SLOT = 6,
-    /* a table, list, queue, count or sheet is full */
+    /* the sheet, a list, a table, the queue or a count may not grow any further */
     FENOMIRASK_FULL = 7,
-    /* any other `unreachable` arm of a mark is met: never given, as is proved */
+    /* a mark meets a record that it cannot meet: never given, as is proved */
     FENOMIRASK_UNREACHABLE_MARK = 8,
-    /* the output is longer than the lent part; found last, so a sheet that is refused otherwise never meets it */
+    /* the text is longer than the room; found last, so a sheet that is refused otherwise never meets it */
     FENOMIRASK_NO_ROOM = 9
 };
 
@@ -112,7 +111,7 @@ int64_t fenomirask_check(const uint8_t *sheet, size_t sheet_bytes, uint8_t *out,
 
 /* The answer to a bundle, in which a line `clause` begins each clause: for each in turn the answer of fenomirask_events to
  * its lines alone, the line behind `clause` being line 1. A clause that is refused is answered with one line in place of
- * that, `no`, the line and the refusal's number, parted by tabs, and the next one goes on. An empty bundle is answered with
+ * that, `no`, the line and the refusal's number, with tabs between, and the next one goes on. An empty bundle is answered with
  * no byte, which is 0; a clause without lines with `end`.
  *
  * A bundle is refused as a whole or not at all, on line 0: in this order FENOMIRASK_FULL, where it has more bytes than
@@ -138,13 +137,13 @@ int64_t fenomirask_bundle(const uint8_t *sheet, size_t sheet_bytes, uint8_t *out
  * another instead. The state is the host's own memory: it may be copied to try a line and be put back, kept on disk, or
  * moved, and fenomirask_fresh makes a clause of it again.
  *
- * A host needs to know no field. They are told for those that look at a state or keep it: each is a number or a set of
+ * A host needs to know no field. They are named for those that look at a state or keep it: each is a number or a set of
  * numbers, and the library refuses, with FENOMIRASK_OUTSIDE_SIZE on line 0 and before all else, what is no state. A
  * valid state is one in which
  *
- *   - every counter is as told below;
+ *   - every counter is as said below;
  *   - so is every number of a table, as far as the table counts: the rows of the variables 0 to records - 1 (in them
- *     as many uses as use_counts tells), every mapping, the first freed_registers of the list, the freed_slots entries
+ *     as many uses as use_counts says), every mapping, the first freed_registers of the list, the freed_slots entries
  *     from first_freed_slot on, and the first open_branches of the branches;
  *   - what names a variable names one below records.
  *

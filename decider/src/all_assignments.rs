@@ -1,6 +1,6 @@
 //! The plainest way: every choice of numbers is tried.
 //!
-//! Only which numbers are equal can make a difference. So the choices are the ways to part
+//! Only which numbers are equal can make a difference. So the choices are the ways to divide
 //! the names into groups of equal ones: the first name has number 0, and each next one a
 //! number that has been given before, or the least that has not.
 

@@ -1,4 +1,5 @@
-//! A second decider of check sheets, written from documents 01 and 02 (b) alone.
+//! A second decider of check sheets, written from the rules alone: sections 19 to 21 of
+//! docs/RULES.md.
 //!
 //! A sheet is decided in three ways that share nothing but its reading and its names:
 //! - `all_assignments` runs the machine on every choice of numbers that makes a difference;

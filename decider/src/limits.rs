@@ -1,6 +1,6 @@
-//! The sizes of document 01 that concern check sheets, by name.
+//! The sizes that concern check sheets, by name: rules 2.3, 3.1, 3.15, 3.16 of docs/RULES.md.
 
-/// A sheet's bytes, and the bytes lent for its answer unless told otherwise.
+/// A sheet's bytes, and the bytes lent for its answer unless an option says otherwise.
 pub const SHEET_BYTES: usize = 65_536;
 /// The largest number that has a right form.
 pub const LARGEST_NUMBER: u64 = 4_294_967_295;

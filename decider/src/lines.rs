@@ -36,7 +36,7 @@ fn read_step(word: &[u8], fields: &[&[u8]]) -> Option<StepLine> {
     }
 }
 
-/// Unsafe and local forms act as their plain forms, and are no longer told apart.
+/// Unsafe and local forms act as their plain forms, and are no longer kept apart.
 fn read_instruction(word: &[u8], fields: &[&[u8]]) -> Option<Instruction> {
     let (place, k) = fields.split_first()?;
     let place = read_place(place)?;

@@ -14,7 +14,7 @@ pub enum Name {
     EntryRegister(u64),
     EntrySlot(u64),
     Step(usize),
-    /// What a `call`, told by the number of its step, leaves in a register.
+    /// What a `call`, known by the number of its step, leaves in a register.
     Left {
         call: usize,
         register: u64,

@@ -1,4 +1,4 @@
-//! Numbers for the names, and what a sheet comes to on them.
+//! Numbers for the names, and what a sheet does on them.
 
 use crate::names::Name;
 use std::collections::BTreeMap;

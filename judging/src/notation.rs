@@ -3,7 +3,7 @@
 /// In a repeated line, stands for the number of the repeat, from 0.
 const REPEAT_NUMBER: &str = "#";
 
-/// Turns the notation into text: ` / ` parts lines and a space parts fields.
+/// Turns the notation into text: ` / ` separates lines and a space separates fields.
 pub fn expand(notation: &str) -> String {
     let notation = notation.trim();
     let (lines, unfinished) = match notation.strip_suffix("\\!") {

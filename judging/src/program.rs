@@ -1,4 +1,4 @@
-//! What the programs share: options, a usage line, and an error told plainly.
+//! What the programs share: options, a usage line, and an error said plainly.
 
 use std::env;
 use std::io;

@@ -1,4 +1,4 @@
-//! The refusals of document 01, by name.
+//! The refusals, by name: rules 4.1 to 4.9 of docs/RULES.md.
 
 /// Why a line, or a whole sheet, is refused; the value is the printed number.
 #[derive(Debug, Clone, Copy, PartialEq, Eq)]

@@ -39,7 +39,7 @@ impl Clause {
         self.allocator.var_data.records.push(fresh_record(record));
     }
 
-    /// Carries out an event that keeps to the sizes. The refusals are told in the order in
+    /// Carries out an event that keeps to the sizes. The refusals come in the order in
     /// which the original's steps meet them: it finds places first, it stops at what it
     /// records after that, and it fills its tables last.
     pub(crate) fn carry_out(&mut self, event: &Event) -> Result<Printed, Refusal> {
@@ -140,7 +140,7 @@ impl Clause {
     }
 }
 
-/// Document 01 lists where the original stops on a sheet; any other stop is refusal 8.
+/// Rule 4.4 of docs/RULES.md lists where the original stops; any other stop is refusal 8.
 fn refusal_for(event: &Event, stop: Stop) -> Refusal {
     match (event, stop) {
         (Event::Mark(mark), Stop::Other) if mark.is_of_variable() => Refusal::Stop,

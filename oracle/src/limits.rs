@@ -1,6 +1,6 @@
-//! The sizes of document 01, by name.
+//! The sizes, by name: section 3 of docs/RULES.md.
 
-/// The bytes of a sheet or a bundle, and those lent for its answer unless told otherwise.
+/// The bytes of a sheet or a bundle, and those lent for its answer unless an option says otherwise.
 pub const SHEET_BYTES: usize = 65_536;
 pub const VARIABLES: usize = 64;
 /// Entries of one variable's use list, repeats counted.

@@ -3,7 +3,7 @@
 //! Names and shapes are the original's; each module holds only what those files touch. What
 //! they name but never reach from a mark (atoms, literals, iterators) is left empty.
 
-/// Branches, contexts and levels, after document 01.
+/// Branches, contexts and levels, after rules 5.3, 5.4, 6.6 of docs/RULES.md.
 pub(crate) mod forms {
     use super::num_order::NumOrd;
 
@@ -74,8 +74,8 @@ pub(crate) mod forms {
             (self.0.branch_num.0, self.0.delta.0)
         }
 
-        /// Document 01's test. The original also asks that the inner span be at most the
-        /// outer one; there the document decides.
+        /// The test of rule 6.6. The original also asks that the inner span be at most the
+        /// outer one; there the rule decides.
         pub(crate) fn has_as_subbranch(&self, other: &Self) -> bool {
             let (outer, span) = self.interval();
             let (inner, _) = other.interval();
@@ -127,7 +127,7 @@ pub(crate) mod parser {
             }
         }
 
-        /// The head's arguments: only variables are told from the rest.
+        /// The head's arguments: only variables differ from the rest.
         pub enum Term {
             AnonVar,
             Var((), VarPtr),

@@ -1,4 +1,4 @@
--- Which refusals are ever given, and that the number for a host tells the line and the refusal apart.
+-- Which refusals are ever given, and that a host can tell count, line and refusal by its number: rules 4.8, 23.3.
 use Prim.Native.Nat.{ℕ, zero, suc, _+_, _*_, _≤_}
 use mathlib.Core.Path.{_≡_, refl, sym, ap, _∙_}
 use mathlib.Core.Logic.{_≢_}
@@ -21,7 +21,7 @@ refusalIn (Refused line refusal) = refusal
 
 -- ---- Refusals that are given
 
--- what anything can be given: at most 9, and not 8
+-- what anything can be given: at most 9, and by rule 4.8 not 8
 abbrev pub Told : ℕ → Type 0
 Told refusal = (refusal ≤ refusedRoom) × (refusal ≢ refusedUnreachable)
 
@@ -57,7 +57,7 @@ sign-negated (suc n) some = refl
 told-both : {l m r q : ℕ} → l ≡ m → r ≡ q → Refused l r ≡ Refused m q
 told-both {l} {m} {r} {q} same also = ap (λ line. Refused line r) same ∙ ap (λ refusal. Refused m refusal) also
 
--- it tells the count, or the line and the refusal
+-- rule 23.3: answers of one number are one answer
 pub number-tells : (a b : Answered) → TellsApart a → TellsApart b → numberOf a ≡ numberOf b → a ≡ b
 number-tells (Written m) (Written n) p q e = ap Written (ap sizeOf e)
 number-tells (Written m) (Refused line refusal) p q e =

@@ -1,4 +1,4 @@
--- What the answer to an event sheet is made of.
+-- What the answer to an event sheet is made of: rules 2.5, 16.2, 16.4.
 use Prim.Native.Nat.{ℕ}
 use mathlib.Core.List.{List, [], _∷_, _++_}
 use Rattle.notation.specs.Text.{bytes}
@@ -9,14 +9,14 @@ use Rattle.code_deque.specs.declared.CodeDeque.the-variants.{Empty, One, Two, T
 use Rattle.debray_allocator.specs.declared.At.{At}
 use Rattle.debray_allocator.specs.declared.At.the-variants.{Nowhere, Place}
 
--- the instructions of an event, in order
+-- rule 16.2: the instructions of an event, three at most, in order
 abbrev pub codeText : CodeDeque → List ℕ
 codeText Empty = []
 codeText (One i) = instructionText i
 codeText (Two i j) = instructionText i ++ instructionText j
 codeText (Three i j k) = (instructionText i ++ instructionText j) ++ instructionText k
 
--- then `at` and a register, for the events that have one
+-- rule 16.2: then `at` and the place, for the events that have one
 abbrev pub placeText : At → List ℕ
 placeText Nowhere = []
 placeText (Place place) = atText place
@@ -24,6 +24,6 @@ placeText (Place place) = atText place
 unfoldable pub answerText : CodeDeque → At → List ℕ
 answerText code place = codeText code ++ placeText place
 
--- the sheet ends with `end`, max_reg_allocated, num_perm_vars
+-- rule 16.4
 unfoldable pub endText : ℕ → ℕ → List ℕ
 endText maxRegAllocated numPermVars = line (bytes "end" ∷ decimal maxRegAllocated ∷ decimal numPermVars ∷ [])

@@ -1,5 +1,4 @@
--- Each clause is answered alone: what is printed for it depends on its own lines only, and to exchange two clauses is to
--- exchange their answers.
+-- Rule 18.5: each clause is answered alone, and where two change places, so do their answers.
 use Prim.Native.Nat.{ℕ, _≤_, _<_}
 use mathlib.Core.Path.{_≡_, refl, ap, ap₂, subst, sym, _∙_}
 use mathlib.Core.Bool.{Bool, true, false, _&&_}
@@ -52,7 +51,7 @@ module _ (bodies : List Body) (all : areBodies bodies ≡ true) where
         written-exactly (bundleOf bodies) room .1
         (bodies-bundle bodies all (fits .bundle-fits), text-short, sym (ap length text-read))
 
-  -- a bundle of bodies is refused for nothing but its length and the output
+  -- a bundle of bodies is refused for nothing but its length and the room
   pub bodies-answered :
       (room : ℕ) → answered (bundleOf bodies) room ≡ sizedAnswer (length (bundleOf bodies)) (length (clauseTexts bodies)) room
   bodies-answered room =
@@ -101,7 +100,7 @@ module _ (before : List Body) (body : Body) (behind : List Body) where
     pub own-lines : AnsweredWith (bundleOf among) out (clauseTexts before ++ (clauseText body ++ clauseTexts behind))
     own-lines = subst (AnsweredWith (bundleOf among) out) own-texts (bodies-texts among all out fits)
 
-    -- and depends on its own lines only
+    -- rule 18.5: and depends on its own lines only
     pub own-part :
         take (length (clauseText body)) (drop (length (clauseTexts before)) (filled (bundleOf among) out)) ≡ clauseText body
     own-part =
@@ -202,7 +201,7 @@ module _ (before : List Body) (x : Body) (between : List Body) (y : Body) (behin
         text-fits = omega (arith, texts-length, fits .text-fits);
       }
 
-  -- and where they fit, the texts of x and y are exchanged and nothing else has moved
+  -- rule 18.5: where they fit, the texts of x and y are exchanged and nothing else has moved
   pub exchanged :
       areBodies one ≡ true → (out : List ℕ) → Fits one (length out)
       → AnsweredWith (bundleOf one) out (texts x y) × AnsweredWith (bundleOf other) out (texts y x)

@@ -1,4 +1,4 @@
--- Bundles at the edges: the empty one, and as many clauses as fit.
+-- Bundles at the edges, by rule 18.3: the empty one, and as many clauses as fit.
 use Prim.Native.Nat.{ℕ, zero, suc, _*_, _≤_, _<_}
 use mathlib.Core.Path.{_≡_, refl, ap, ap₂, subst, _∙_}
 use mathlib.Core.Bool.{true}

@@ -1,4 +1,4 @@
--- What a bundle is made of, what is due to it, and what it prints, in words of its bytes and lines alone.
+-- What a bundle is made of, what is due to it, and what it prints, in words of its bytes and lines alone: rules 18.1 to 18.8.
 use Prim.Native.Nat.{ℕ, zero, suc, _≤_, _<_}
 use mathlib.Core.Path.{_≡_}
 use mathlib.Core.Bool.{Bool, true, not, _&&_}
@@ -43,7 +43,7 @@ pub record MadeOf (bundle : List ℕ) (bodies : List Body) : Type 0 where
   pub made : bundleOf bodies ≡ bundle
   pub only : (others : List Body) → areBodies others ≡ true → bundleOf others ≡ bundle → others ≡ bodies
 
--- ---- What a bundle is refused for
+-- ---- What a bundle is refused for (rule 18.6)
 
 abbrev pub TooLong : List ℕ → Type 0
 TooLong bundle = sheetBytes < length bundle
@@ -52,11 +52,11 @@ TooLong bundle = sheetBytes < length bundle
 abbrev pub Unended : List ℕ → Type 0
 Unended bundle = (front : List ℕ) × (last : ℕ) × (bundle ≡ front ++ (last ∷ [])) × (last ≢ lineFeed)
 
--- a line stands before the first whose word is `clause`: the first line has another word
+-- the first line has another word than `clause`
 abbrev pub Stray : List (List ℕ) → Type 0
 Stray lines = (first : List ℕ) × (others : List (List ℕ)) × (lines ≡ first ∷ others) × (before tab first ≢ clauseWord)
 
--- a `clause` line has more fields
+-- a line with the word `clause` has a field behind it
 abbrev pub ClauseAndMore : List ℕ → Type 0
 ClauseAndMore line = (field : List ℕ) × (fields : List (List ℕ)) × (split tab line ≡ clauseWord ∷ (field ∷ fields))
 
@@ -80,7 +80,7 @@ pub record IsBundle (bundle : List ℕ) : Type 0 where
 abbrev pub textOf : List ℕ → List ℕ
 textOf bundle = clauseTexts (clauses (linesOf bundle))
 
--- ---- What is due to a bundle, in the order of its refusals
+-- ---- What is due to a bundle, in the order of rule 18.6
 
 pub data Due (bundle : List ℕ) (room : ℕ) : Answered → Type 0 where
   full : TooLong bundle → Due bundle room (Refused 0 refusedFull)
@@ -104,7 +104,7 @@ abbrev pub sizedAnswer : ℕ → ℕ → ℕ → Answered
 sizedAnswer bundle text room =
     if ltb sheetBytes bundle then Refused 0 refusedFull else if ltb room text then Refused 0 refusedRoom else Written text
 
--- the bundle's length and the output both fit
+-- rule 18.5: the bundle and its text fit
 pub record Fits (bodies : List Body) (room : ℕ) : Type 0 where
   pub bundle-fits : length (bundleOf bodies) ≤ sheetBytes
   pub text-fits : length (clauseTexts bodies) ≤ room
@@ -133,7 +133,7 @@ abbrev pub Each : (List ℕ → Type 0) → List (List ℕ) → Type 0
 Each So [] = Unit {0}
 Each So (line ∷ lines) = So line × Each So lines
 
--- the last line of a text ends an answer, and no line before it does
+-- rule 18.8: the last line of a text ends an answer, and no line before it does
 pub record EndsOnce (text : List ℕ) : Type 0 where
   pub front : List (List ℕ)
   pub last : List ℕ

@@ -1,4 +1,4 @@
--- A bundle of one clause prints what the event sheet of its lines prints, or its `no` line.
+-- Rules 18.2, 18.4: a bundle of one clause prints what the event sheet of its lines prints, or its `no` line.
 use Prim.Native.Nat.{ℕ, _≤_, _<_}
 use mathlib.Core.Path.{_≡_, refl, ap, ap₂, subst, sym, _∙_}
 use mathlib.Core.Bool.{true, false}
@@ -58,7 +58,7 @@ module _ (body : Body) where
       unfolding clauseText ranText
       refused-text = simp e
 
-    -- where the sheet is refused at a line, the clause prints its `no` line and nothing else, alone or among others
+    -- rule 18.7: where the sheet is refused at a line, the clause prints its `no` line and nothing else, alone or among others
     pub refused-costs-its-line :
         (room : ℕ) {number refusal : ℕ} → 1 ≤ number → sheetAnswered sheet room ≡ Refused number refusal
         → clauseText body ≡ refusalText number refusal

@@ -1,5 +1,5 @@
--- What is printed is whole lines. A clause's last line is its only one with the word `end` or `no`; and a clause is refused at one
--- of its own lines, so that none begins with the fields `no`, `0`.
+-- What is printed is whole lines. A clause's last line is its only one with the word `end` or `no` (rule 18.8). A clause is
+-- refused at one of its own lines, so that none begins with the fields `no`, `0` (rule 18.4).
 use Prim.Native.Nat.{ℕ, zero, suc, _≤_, _<_, _/_, _%_}
 use mathlib.Core.Path.{_≡_, refl, ap, ap₂, subst, sym, _∙_}
 use mathlib.Core.Bool.{Bool, true, false, not, _&&_, false≢true}
@@ -59,7 +59,7 @@ use Rattle.bundle_exactly.specs.RefusedLaws.{written-exactly, written-fi
 abbrev From : ℕ → Ran → Type 0
 From number r = 0 < r .refusal → number ≤ r .line
 
--- what a line comes to, and the lines behind it
+-- what a line prints, and the lines behind it
 abbrev later : State → ℕ → List ℕ → List (List ℕ) → Ran
 later s number text parts =
     behind (answerText (lineAnswer s text .code) (lineAnswer s text .at)) (ran (lineAnswer s text .state) (suc number) parts)
@@ -77,7 +77,7 @@ ran-from (text ∷ (next ∷ parts)) s number =
     (λ e h. omega arith)
     (λ e h. omega (arith, ran-from (next ∷ parts) (lineAnswer s text .state) (suc number) h))
 
--- what is refused in a clause is refused at one of its lines, which are counted from 1
+-- rule 18.4: what is refused in a clause is refused at one of its lines, which are counted from 1
 pub clause-line-positive : (sheet : List ℕ) → 0 < sheetRan sheet .refusal → 1 ≤ sheetRan sheet .line
 unfolding sheetRan
 clause-line-positive sheet = ran-from (split lineFeed sheet) freshState 1
@@ -418,7 +418,7 @@ clause-closed body =
     (λ e. only-last (refusal-last (r .line) (r .refusal) (clause-line-positive (sheetOf body) (ltb-true 0 (r .refusal) e))))
     (λ e. ran-closed (split lineFeed (sheetOf body)) freshState 1 (ltb-false 0 (r .refusal) e))
 
--- so a host can cut what is written into the answers of its clauses, behind each `end` or `no` line
+-- rule 18.8: so a host can cut what is written into the answers of its clauses, behind each `end` or `no` line
 pub cut-behind : (body : Body) → EndsOnce (clauseText body)
 cut-behind body = closed-once (clause-closed body)
 

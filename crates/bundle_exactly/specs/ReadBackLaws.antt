@@ -1,4 +1,4 @@
--- What a bundle is made of can be read back from it, in one way.
+-- What a bundle is made of (rule 18.1) can be read back from it, in one way.
 use Prim.Native.Nat.{ℕ, _≤_}
 use mathlib.Core.Path.{_≡_, refl, ap, ap₂, subst, sym, _∙_}
 use mathlib.Core.Bool.{Bool, true, false, not, _&&_, _||_, true≢false}

@@ -1,4 +1,4 @@
--- When a bundle is given each refusal and when it is written, both ways and in any room; and that no other refusal is given.
+-- Rule 18.6, both ways and in any room: when a bundle is given each refusal and when it is written; and that no other is given.
 use Prim.Native.Nat.{ℕ, _≤_, _<_}
 use mathlib.Core.Path.{_≡_, refl, ap, ap₂, subst, sym, _∙_}
 use mathlib.Core.Bool.{true, false}
@@ -75,7 +75,7 @@ module _ (bundle : List ℕ) where
               more-exactly (linesOf bundle) .1 m,
             )
 
-  -- one that is refused for nothing but the output
+  -- one that is refused for nothing but the room
   pub bundle-ran : IsBundle bundle → bundleRan bundle ≡ allRan (textOf bundle)
   unfolding bundleRan
   bundle-ran whole =
@@ -207,7 +207,7 @@ module _ (bundle : List ℕ) (room : ℕ) where
   pub bundle-tells : TellsApart (answered bundle room)
   bundle-tells = due-tells (given-due bundle room)
 
--- so the number for a host tells refusals and counts apart
+-- rule 23.3: so a host can tell refusals and counts by the number
 pub bundle-number :
     (bundle bundle′ : List ℕ) (room room′ : ℕ) → numberOf (answered bundle room) ≡ numberOf (answered bundle′ room′)
     → answered bundle room ≡ answered bundle′ room′

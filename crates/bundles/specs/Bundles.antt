@@ -1,5 +1,4 @@
--- The whole answer to a bundle, for every list of bytes and every room. A line `clause` begins each clause, and each is answered
--- as an event sheet of its lines alone, in order.
+-- The whole answer to a bundle, for every list of bytes and every room: rules 1.1, 18.1 to 18.4, 18.6, 18.7.
 use Prim.Native.Nat.{ℕ, _-_}
 use mathlib.Core.Bool.{Bool, false, not, _&&_, _||_}
 use mathlib.Core.List.{List, [], _∷_, _++_}
@@ -17,14 +16,14 @@ use Rattle.event_sheets.specs.EventSheets.{Ran, refusedAt, sheetRan, answeredBy
 
 -- ---- Lines, and the clauses among them
 
--- the parts that end in LF: all but the last, which is what stands behind the last LF
+-- rule 2.1: the parts that end in LF, all but the last, which is what stands behind the last LF
 unfoldable pub linesOf : List ℕ → List (List ℕ)
 linesOf bundle = take (length (split lineFeed bundle) - 1) (split lineFeed bundle)
 
 abbrev pub clauseWord : List ℕ
 clauseWord = bytes "clause"
 
--- a line's word is its first field
+-- rule 18.1: its word is `clause`, byte for byte
 unfoldable pub isClause : List ℕ → Bool
 isClause line = same (before tab line) clauseWord
 
@@ -33,19 +32,19 @@ unfoldable pub untilClause : List (List ℕ) → List (List ℕ)
 untilClause [] = []
 untilClause (line ∷ lines) = if isClause line then [] else line ∷ untilClause lines
 
--- of each clause its lines: those behind its `clause`, up to the next
+-- rule 18.1: of each clause its lines
 unfoldable pub clauses : List (List ℕ) → List (List (List ℕ))
 clauses [] = []
 clauses (line ∷ lines) = if isClause line then untilClause lines ∷ clauses lines else clauses lines
 
--- ---- What is printed
+-- ---- What is printed: the texts of the clauses in their order (rule 18.3)
 
--- the event sheet of these lines
+-- rule 18.2: the event sheet of these lines
 unfoldable pub sheetOf : List (List ℕ) → List ℕ
 sheetOf [] = []
 sheetOf (line ∷ lines) = line ++ (lineFeed ∷ sheetOf lines)
 
--- what it prints; where it is refused, its `no` line
+-- rules 18.4, 18.7: of a sheet that is refused only its `no` line
 unfoldable pub ranText : Ran → List ℕ
 ranText r = if ltb 0 (r .refusal) then refusalText (r .line) (r .refusal) else r .text
 
@@ -56,17 +55,17 @@ unfoldable pub clauseTexts : List (List (List ℕ)) → List ℕ
 clauseTexts [] = []
 clauseTexts (lines ∷ others) = clauseText lines ++ clauseTexts others
 
--- ---- Refusals, all for the whole bundle, in their order
+-- ---- Refusals of the whole bundle, in the order of rule 18.6
 
 -- the last byte, where there is one, is no LF
 unfoldable pub isUnended : List ℕ → Bool
 isUnended bundle = not (eqb (getD bundle (length bundle - 1) lineFeed) lineFeed)
 
--- a line stands before the first whose word is `clause`
+-- some line belongs to no clause
 unfoldable pub isStray : List (List ℕ) → Bool
 isStray lines = ltb 0 (length (untilClause lines))
 
--- a `clause` line has more fields
+-- behind the word `clause` stands a tab, so a field, be it empty
 unfoldable pub isMore : List ℕ → Bool
 isMore line = isClause line && not (same line clauseWord)
 
@@ -85,7 +84,7 @@ bundleRan bundle =
     else if hasMore (linesOf bundle) then refusedAt 0 refusedForm
     else allRan (clauseTexts (clauses (linesOf bundle)))
 
--- ---- The answer: output last
+-- ---- The answer: room last
 
 unfoldable pub answered : List ℕ → ℕ → Answered
 answered bundle room = answeredBy (bundleRan bundle) room

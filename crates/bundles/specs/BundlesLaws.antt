@@ -119,7 +119,7 @@ pub written-within :
     → (count ≤ room) × (count ≡ length (bundleRan bundle .text))
 written-within bundle room count e = written-bound room _ _ (answered bundle room) (answered-whole bundle room) e
 
--- a refusal's line is 0
+-- rule 18.6: a refusal's line is 0
 pub line-whole : (bundle : List ℕ) (room line refusal : ℕ) → answered bundle room ≡ Refused line refusal → line ≡ 0
 line-whole bundle room line refusal e = omega (arith, refused-bound room _ _ (answered bundle room) (answered-whole bundle room) e)
 
@@ -129,7 +129,7 @@ unfolding filled
 filled-length bundle out =
     filledBy-length (bundleRan bundle .text) out 0 (answered bundle (length out)) (answered-whole bundle (length out))
 
--- and a refusal leaves each of them as it was
+-- rule 1.3: and a refusal leaves each of them as it was
 pub refused-untouched :
     (bundle out : List ℕ) (line refusal : ℕ) → answered bundle (length out) ≡ Refused line refusal → filled bundle out ≡ out
 unfolding filled

@@ -1,4 +1,4 @@
--- Laws of lines and of the clauses among them: cut a line at a time, put together again, and parted before the first `clause`.
+-- Laws of lines and of the clauses among them: cut a line at a time, put together again, and split before the first `clause`.
 use Prim.Native.Nat.{ℕ, zero, suc, _-_, _≤_, _<_}
 use mathlib.Core.Path.{_≡_, refl, ap, ap₂, sym, _∙_}
 use mathlib.Core.Bool.{true, false, not, _&&_, _||_}

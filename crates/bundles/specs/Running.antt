@@ -1,4 +1,4 @@
--- One run over the clauses of a bundle: what refuses it before, what it tells, and what holds between two clauses.
+-- One run over the clauses of a bundle: what refuses it before, what it answers, and what holds between two clauses.
 use Prim.Native.Nat.{ℕ, _+_, _*_, _≤_}
 use mathlib.Core.Path.{_≡_}
 use mathlib.Core.Bool.{true, false}
@@ -14,13 +14,13 @@ use Rattle.answers.specs.AnswersLaws.{longest}
 use Rattle.event_sheets.specs.EventSheets.{Ran, refusedAt}
 use Rattle.bundles.specs.Bundles.{linesOf, isUnended, isStray, hasMore, untilClause, clauses, clauseTexts, sheetOf, allRan}
 
--- length, LF, order
+-- the first three of rule 18.6: length, LF, order
 unfoldable pub refusalBefore : List ℕ → ℕ
 refusalBefore bundle =
     if ltb sheetBytes (length bundle) then refusedFull
     else if isUnended bundle then refusedForm else if isStray (linesOf bundle) then refusedOrder else accepted
 
--- and then the fields of `clause` lines
+-- the fourth: the fields of `clause` lines
 unfoldable pub clausesRan : List (List ℕ) → Ran
 clausesRan lines = if hasMore lines then refusedAt 0 refusedForm else allRan (clauseTexts (clauses lines))
 

@@ -1,4 +1,4 @@
--- When a check sheet is read and when it is refused, in words of its lines alone.
+-- When a check sheet is read and when it is refused, in words of its lines alone: rules 4.11, 4.14, 19.9.
 -- Lines that stand before are listed with the last one first.
 use Prim.Native.Nat.{ℕ, suc, _≤_, _<_}
 use mathlib.Core.Path.{_≡_}
@@ -63,7 +63,7 @@ LineAt sheet number Holds = Behind sheet (λ count earlier rest. (number ≡ suc
 abbrev pub UnendedAt : List ℕ → ℕ → Type 0
 UnendedAt sheet number = Behind sheet (λ count earlier rest. (number ≡ suc count) × Unended rest)
 
--- goal steps with no `call` after them: the last line
+-- rule 19.9: the last line, where a `call` is missing
 abbrev pub UncalledAt : List ℕ → ℕ → Type 0
 UncalledAt sheet number = Behind sheet (λ count earlier rest. (number ≡ count) × Ended rest × (isUncalled (stepsOf earlier) ≡ true))
 
@@ -88,7 +88,7 @@ AllRead sheet lines =
 abbrev pub IsRead : List ℕ → Type 0
 IsRead sheet = (lines : List CheckLine) × AllRead sheet lines
 
--- ---- What a line that says something is refused for: 2, 3, then 7
+-- ---- What a line that says something is refused for: 2, 3, then 7 (rule 4.12)
 
 abbrev pub SaysThat : (List CheckLine → CheckLine → Type 0) → List CheckLine → Line → Type 0
 SaysThat Holds earlier Malformed = ⊥

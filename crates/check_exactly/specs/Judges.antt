@@ -1,4 +1,4 @@
--- What the answer to a check sheet that is read tells of its meaning.
+-- What the answer to a check sheet that is read says of its meaning: rule 21.6.
 use Prim.Native.Nat.{ℕ}
 use mathlib.Core.Path.{_≡_}
 use mathlib.Core.Logic.{_↔_}

@@ -1,4 +1,4 @@
--- Accepted exactly when right: whatever meets the contract of `check_sheets::answer` judges a sheet that is read by its meaning.
+-- Rule 21.6: whatever meets the contract of `check_sheets::answer` judges a sheet that is read by its meaning.
 use Prim.Native.Nat.{ℕ, _≤_}
 use mathlib.Core.Path.{_≡_, refl, ap, sym, subst, _∙_}
 use mathlib.Core.Bool.{Bool, true, false, true≢false, false≢true}
@@ -58,7 +58,7 @@ filled-shows right sheet out short read room =
     ∙ ap (λ r. answeredBy right r (length out)) read
     ∙ wide-answered right room)
 
--- ---- Accepted exactly when right
+-- ---- Accepted exactly when right (rule 21.6)
 
 pub judges-exactly :
     (sheet out : List ℕ) {a : Answered} {after : List ℕ} {lines : List CheckLine}

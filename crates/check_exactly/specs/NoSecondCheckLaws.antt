@@ -1,4 +1,4 @@
--- No second answer to a check sheet fits: what meets a contract of the check side is settled.
+-- Rule 25.2 of check sheets: no second answer fits, since what meets a contract of the check side is settled.
 use Prim.Native.Nat.{ℕ}
 use mathlib.Core.Path.{_≡_, sym, subst}
 use mathlib.Core.Bool.{Bool}
@@ -13,7 +13,7 @@ use Rattle.symbolic.specs.Tables.{takingOf}
 use Rattle.check_sheets.specs.CheckSheets.{reading, ByVerdict}
 use Rattle.check_sheets.specs.TellsLaws.{tells-once}
 
--- ---- Of one sheet there is one verdict: what is told by it is told by it alone
+-- ---- Of one sheet there is one verdict
 
 pub by-verdict-unique :
     {sheet : List ℕ} {Holds Other : Bool → Type 0} (first : ByVerdict sheet Holds) (second : ByVerdict sheet Other)

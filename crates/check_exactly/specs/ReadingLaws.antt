@@ -1,4 +1,4 @@
--- The first bad line decides: a sheet's reading is a refusal, or its lines, exactly when its lines say so.
+-- Rule 4.11 of check sheets: a sheet's reading is a refusal, or its lines, exactly when its lines say so.
 use Prim.Native.Nat.{ℕ, suc}
 use mathlib.Core.Path.{_≡_, refl, ap, ap₂, sym, subst, _∙_}
 use mathlib.Core.Bool.{true, false}
@@ -152,7 +152,7 @@ module _ (sheet : List ℕ) where
   reading-exactly : (r : Reading) → (reading sheet ≡ r) ↔ LinesTell sheet r
   reading-exactly r = (λ e. subst (LinesTell sheet) (sym (is-read sheet (told .0) (told .1)) ∙ e) (told .1), is-read sheet r)
 
-  -- the first bad line decides
+  -- rule 4.11
   pub bad-exactly : (number refusal : ℕ) → (reading sheet ≡ bad number refusal) ↔ FirstBad sheet number refusal
   bad-exactly number refusal = reading-exactly (bad number refusal)
 

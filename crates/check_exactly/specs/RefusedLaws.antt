@@ -1,4 +1,4 @@
--- When a check sheet is given each refusal, both ways, by any verdict and in any room; and that no other refusal is given.
+-- Rule 25.3 of check sheets: when each refusal is given, both ways, by any verdict and in any room; and that no other is given.
 use Prim.Native.Nat.{ℕ, _≤_, _<_}
 use mathlib.Core.Path.{_≡_, refl, ap, sym, _∙_}
 use mathlib.Core.Bool.{Bool}
@@ -116,7 +116,7 @@ module _ (right : Bool) (sheet : List ℕ) (room : ℕ) {number : ℕ} (some : 1
         ⊎-elim (λ at. inl (line-at-so (λ earlier said. by earlier said .1) at)) inr,
       ) told))
 
-  -- 1: it is no line of a check sheet, or it has no LF
+  -- rules 4.1, 4.14: it is no line of a check sheet, or it has no LF
   pub form-exactly :
       (answered right sheet room ≡ Refused number refusedForm)
       ↔ ((length sheet ≤ sheetBytes) × (LineAt sheet number (λ earlier said. said ≡ Malformed) ⊎ UnendedAt sheet number))
@@ -126,7 +126,7 @@ module _ (right : Bool) (sheet : List ℕ) (room : ℕ) {number : ℕ} (some : 1
         ⊎-elim inl (λ at. inr (inl (refl, at))),
       )
 
-  -- 2: it is out of order, or the last line and a `call` is missing
+  -- rules 4.2, 19.9: it is out of order, or the last line and a `call` is missing
   pub order-exactly :
       (answered right sheet room ≡ Refused number refusedOrder)
       ↔ ((length sheet ≤ sheetBytes) × (LineAt sheet number (SaysThat OutOfOrder) ⊎ UncalledAt sheet number))
@@ -136,13 +136,13 @@ module _ (right : Bool) (sheet : List ℕ) (room : ℕ) {number : ℕ} (some : 1
         ⊎-elim inl (λ at. inr (inr (refl, at))),
       )
 
-  -- 3: in order, a number is outside its size
+  -- rule 4.3: in order, a number is outside its size
   pub size-exactly :
       (answered right sheet room ≡ Refused number refusedSize)
       ↔ ((length sheet ≤ sheetBytes) × LineAt sheet number (SaysThat OutOfSize))
   size-exactly = given-exactly size-by (line-alone (omega arith) (omega arith))
 
-  -- 7: in order and in size, it is one step or one instruction too many
+  -- rule 4.7: in order and in size, it is one step or one instruction too many
   pub full-exactly :
       (answered right sheet room ≡ Refused number refusedFull)
       ↔ ((length sheet ≤ sheetBytes) × LineAt sheet number (SaysThat TooMany))
@@ -167,7 +167,7 @@ module _ (right : Bool) (sheet : List ℕ) (room : ℕ) where
       ap (λ r. answeredBy right r room) (reads-exactly sheet (told .0 .0) .1 (told .0 .1))
       ∙ roomed-exactly right room (omega arith) .1 (refl, told .1)
 
-  -- 7: it is too long
+  -- rules 4.7, 4.10: it is too long
   pub length-exactly : (answered right sheet room ≡ Refused 0 refusedFull) ↔ (sheetBytes < length sheet)
   unfolding answered
   length-exactly = (
@@ -177,7 +177,7 @@ module _ (right : Bool) (sheet : List ℕ) (room : ℕ) where
     λ long. simp (lt-ltb sheetBytes (length sheet) long),
   )
 
-  -- 9: it is read, and the word is longer than the room
+  -- rules 4.9, 4.10: it is read, and the word is longer than the room
   pub room-exactly :
       (answered right sheet room ≡ Refused 0 refusedRoom)
       ↔ ((length sheet ≤ sheetBytes) × (IsRead sheet × (room < length (wordOf right))))
@@ -203,6 +203,6 @@ module _ (right : Bool) (sheet : List ℕ) (room : ℕ) where
   check-gives =
       either GivenBy (ltb sheetBytes (length sheet)) (inl (omega arith, inr refl)) (reading-gives right sheet room (reading sheet) refl)
 
-  -- so the number for a host tells the line and the refusal
+  -- rule 23.3: so a host can tell the line and the refusal
   pub check-tells : TellsApart (answered right sheet room)
   check-tells = given-tells (answered right sheet room) check-gives

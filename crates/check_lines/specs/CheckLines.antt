@@ -1,4 +1,4 @@
--- What a line of a check sheet says, by its fields.
+-- What a line of a check sheet says, by its fields: rules 2.2, 2.4, 4.1, 19.1, 19.2.
 use Prim.Native.Nat.{ℕ}
 use mathlib.Core.List.{List, [], _∷_}
 use lib.ListN.{take, drop}

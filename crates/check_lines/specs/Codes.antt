@@ -1,4 +1,4 @@
--- The words of lines, numbered from 1, and the lines that those numbers name.
+-- The words of lines, numbered from 1, and the lines that those numbers name: rules 19.1, 19.2.
 use Prim.Native.Nat.{ℕ}
 use mathlib.Core.List.{List, _∷_}
 use lib.Dec.{eqb}
@@ -15,11 +15,11 @@ use Rattle.steps.specs.declared.CheckLine.the-variants.{Begins, Does}
 use Rattle.check_lines.specs.declared.Line.{Line}
 use Rattle.check_lines.specs.declared.Line.the-variants.{Malformed, Says}
 
--- the first five instructions have a place and an argument, the others a place
+-- rule 16.3: the first five instructions have a place and an argument, the others a place
 abbrev pub placeWords : List (List ℕ)
 placeWords = drop 5 words
 
--- `call` stands alone; two words have one number; two have two; and then come the instructions
+-- rule 19.1: `call` stands alone, two words have one number and two have two; then come the instructions
 abbrev pub lineWords : List (List ℕ)
 lineWords = bytes "call" ∷ bytes "hd" ∷ bytes "gd" ∷ bytes "h" ∷ bytes "g" ∷ words
 
@@ -39,7 +39,7 @@ unfoldable pub argumentStep : ℕ → ℕ → ℕ → Line
 argumentStep code k v =
     if eqb code 4 then Says (Begins (Head k v)) else if eqb code 5 then Says (Begins (Goal k v)) else Malformed
 
--- `put_unsafe_value` takes a slot only
+-- rule 19.2: an unsafe value comes from a slot alone
 abbrev pub unsafeLine : RegType → ℕ → Line
 unsafeLine (Perm slot) k = Says (Does (PutUnsafeValue slot k))
 unsafeLine (Temp r) k = Malformed

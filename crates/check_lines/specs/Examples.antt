@@ -1,4 +1,4 @@
--- A line of each word, and lines that have no form.
+-- A line of each word, and lines that have no form: rules 2.4, 19.1, 19.2.
 use Prim.Native.Nat.{ℕ}
 use mathlib.Core.Path.{_≡_, refl}
 use mathlib.Core.List.{List, [], _∷_, map}
@@ -15,7 +15,7 @@ use Rattle.check_lines.specs.declared.Line.the-variants.{Malformed, Says
 use Rattle.check_lines.specs.Codes.{wordCode, noField, deepStep, argumentStep, argumentInstruction, placeInstruction}
 use Rattle.check_lines.specs.CheckLines.{fieldOf, saidBy, fieldsSay, lineSays}
 
--- each word, in document 01's order; a number outside its size has its form all the same
+-- each word, in the order of its rules; a number outside its size has its form all the same
 abbrev wellFormed : List (List ℕ × Line)
 wellFormed =
     (bytes "h\t1\t0", Says (Begins (Head 1 0)))

@@ -1,4 +1,4 @@
--- An instruction's printed line, without its LF, reads back as the instruction.
+-- Rule 19.2: an instruction's printed line, without its LF, reads back as the instruction.
 use Prim.Native.Nat.{ℕ, zero, suc, _+_, _/_, _%_, _≤_}
 use mathlib.Core.Path.{_≡_, refl, _∙_}
 use mathlib.Core.Bool.{true, false, not}

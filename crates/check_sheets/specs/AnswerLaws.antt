@@ -75,7 +75,7 @@ module _ (right : Bool) (sheet out : List ℕ) where
   unfolding answered filled
   read-answers h by = simp (le-ltb _ _ h) by
 
--- ---- What the run told
+-- ---- What the run answered
 
 abbrev refusedBy : Run → Answered
 refusedBy (Bad line refusal) = Refused line refusal

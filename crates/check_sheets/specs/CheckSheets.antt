@@ -1,5 +1,5 @@
--- The whole answer to a check sheet, for every list of bytes and every room. Lines that stand before are listed with the last
--- one first.
+-- The whole answer to a check sheet, for every list of bytes and every room: rules 1.1, 1.4, 21.6. Lines that stand before are
+-- listed with the last one first.
 use Prim.Native.Nat.{ℕ, suc, _-_}
 use mathlib.Core.Path.{_≡_}
 use mathlib.Core.Bool.{Bool, true, false}
@@ -33,14 +33,14 @@ abbrev pub withLine : CheckLine → Reading → Reading
 withLine line (bad number refusal) = bad number refusal
 withLine line (reads lines) = reads (line ∷ lines)
 
--- what stands behind the last LF is a line that has none; goal steps with no `call` after them are reported last, at the last line
+-- rules 2.1, 4.14, 19.9: bytes behind the last LF are a line without one; a missing `call` is refused at the last line
 unfoldable pub lastRead : List CheckLine → ℕ → List ℕ → Reading
 lastRead earlier number left =
     if ltb 0 (length left)
     then bad number refusedForm
     else if isUncalled (stepsOf earlier) then bad (number - 1) refusedOrder else reads []
 
--- 1, then 2, 3 and 7; the first bad line decides
+-- rules 4.11, 4.12: 1 comes before 2, 3 and 7, and the first bad line ends the reading
 abbrev pub lineRead : List CheckLine → ℕ → Line → (List CheckLine → Reading) → Reading
 lineRead earlier number Malformed others = bad number refusedForm
 lineRead earlier number (Says line) others =
@@ -56,14 +56,14 @@ readFrom earlier number (line ∷ (next ∷ parts)) =
 unfoldable pub reading : List ℕ → Reading
 reading sheet = readFrom [] 1 (split lineFeed sheet)
 
--- ---- Whether the instructions are right
+-- ---- Whether the instructions are right (rule 21.5)
 
 -- `right` tells it of a sheet that is read; of one with a bad line it is false, so that there is one value there too
 abbrev pub Tells : Bool → Reading → Type 0
 Tells right (bad number refusal) = right ≡ false
 Tells right (reads lines) = (right ≡ true) ↔ Right lines
 
--- ---- The answer: length first, output last
+-- ---- The answer: length first, room last (rules 3.1, 4.9, 4.10)
 
 abbrev pub acceptedText : List ℕ
 acceptedText = bytes "accepted\n"
@@ -71,7 +71,7 @@ acceptedText = bytes "accepted\n"
 abbrev pub rejectedText : List ℕ
 rejectedText = bytes "rejected\n"
 
--- printed: `accepted` or `rejected`
+-- rule 21.6
 abbrev pub wordOf : Bool → List ℕ
 wordOf right = if right then acceptedText else rejectedText
 

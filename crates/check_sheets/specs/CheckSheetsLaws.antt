@@ -125,7 +125,7 @@ module _ (right : Bool) where
   filled-length sheet out =
       filledBy-length (wordOf right) out (sheetBytes + 1) (answered right sheet (length out)) (answered-within sheet (length out))
 
-  -- and a refusal leaves each of them as it was
+  -- rule 1.3: and a refusal leaves each of them as it was
   pub refused-untouched :
       (sheet out : List ℕ) (line refusal : ℕ) → answered right sheet (length out) ≡ Refused line refusal → filled right sheet out ≡ out
   unfolding filled

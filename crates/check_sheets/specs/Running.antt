@@ -1,4 +1,4 @@
--- One run over the lines of a check sheet: how far a line comes, what the run tells, and what holds between two lines.
+-- One run over the lines of a check sheet: how far a line gets, what the run answers, and what holds between two lines.
 use Prim.Native.Nat.{ℕ, _+_, _-_, _≤_}
 use mathlib.Core.Path.{_≡_}
 use mathlib.Core.Bool.{Bool, false}
@@ -30,7 +30,7 @@ abbrev pub verdictOf : Reading → Bool
 verdictOf (bad number refusal) = false
 verdictOf (reads lines) = verdict lines
 
--- how far a line comes
+-- how far a line gets
 abbrev pub saidTaken : Order → Symbols → Line → Taking
 saidTaken order s Malformed = taking order s refusedForm
 saidTaken order s (Says line) = taken order s line
@@ -38,7 +38,7 @@ saidTaken order s (Says line) = taken order s line
 unfoldable pub lineTaken : Order → Symbols → List ℕ → Taking
 lineTaken order s line = saidTaken order s (lineSays line)
 
--- what the run tells of lines that are read from an order and symbols on
+-- what the run answers for lines that are read from an order and symbols on
 abbrev pub runFrom : Order → Symbols → Reading → Run
 runFrom order s (bad number refusal) = Refused number refusal
 runFrom order s (reads lines) = Decided (decided (carriedAll order s lines))
@@ -46,7 +46,7 @@ runFrom order s (reads lines) = Decided (decided (carriedAll order s lines))
 abbrev pub runOf : Reading → Run
 runOf r = runFrom freshOrder freshSymbols r
 
--- what is told of the last part, where the lines before it have a verdict
+-- what it answers at the last part, where the lines before it have a verdict
 unfoldable pub lastRun : Order → ℕ → List ℕ → Bool → Run
 lastRun order number left right =
     if ltb 0 (length left)

@@ -164,7 +164,7 @@ module _ (order : Order) (number : ℕ) (left : List ℕ) (right : Bool) where
     unfolding lastRun
     last-judged h judges = ap (λ b. Decided b) judges ∙ simp (le-ltb _ _ none, le-ltb 0 (refusalAtEnd order) (omega arith))
 
--- it is what the run tells of it
+-- it is the run's answer
 last-run :
     (order : Order) (earlier : List CheckLine) → Sums order earlier → (s : Symbols) (number : ℕ) (left : List ℕ)
     → lastRun order number left (decided s) ≡ runFrom order s (lastRead earlier number left)

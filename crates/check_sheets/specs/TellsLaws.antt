@@ -101,7 +101,7 @@ tells-once (bad number refusal) first second = first ∙ sym second
 tells-once (reads lines) {b} {c} first second =
     both-ways b c (λ e. second .1 (first .0 e)) (λ e. first .1 (second .0 e))
 
--- what follows from a verdict's telling, told by that verdict
+-- what follows of a verdict holds by the same verdict
 pub by-verdict-so :
     {sheet : List ℕ} {Holds Other : Bool → Type 0} → ByVerdict sheet Holds → ((right : Bool) → Holds right → Other right)
     → ByVerdict sheet Other

@@ -1,4 +1,4 @@
--- One line of an event sheet, given to a state: for every state, every list of bytes and every room.
+-- One line of an event sheet, given to a state, for every state, every list of bytes and every room: rules 17.1 to 17.3, 17.6.
 use Prim.Native.Nat.{ℕ}
 use mathlib.Core.Bool.{not}
 use mathlib.Core.List.{List, [], _∷_}
@@ -19,7 +19,7 @@ use Rattle.event_sheets.specs.EventSheets.{lineAnswer, ended, answeredBy}
 use Rattle.valid_states.specs.ValidStates.{isValid}
 use Rattle.event_calls.specs.declared.Called.{Called}
 
--- ---- A line: bytes with one LF, and nothing behind it
+-- ---- A line: bytes with one LF, and nothing behind it (rule 17.3)
 
 abbrev pub partsAnswer : State → List (List ℕ) → Answer
 partsAnswer s [] = refusedWith s refusedForm
@@ -37,11 +37,11 @@ textOf a = answerText (a .code) (a .at)
 
 -- ---- The new state and the answer
 
--- every refusal returns its number and line; the state is untouched
+-- rule 1.3: a refusal keeps the state
 abbrev pub refusedCall : State → ℕ → ℕ → Called
 refusedCall s line refusal = record { state = s; answered = Refused line refusal }
 
--- line 1 for a single event call, line 0 for the room, which is tested last
+-- rules 17.1, 17.6: what the line is refused for, then the room; otherwise the state behind its event, and the text
 unfoldable pub calledBy : State → Answer → ℕ → Called
 calledBy s a room =
     if ltb 0 (a .refusal)
@@ -50,7 +50,7 @@ calledBy s a room =
     then refusedCall s 0 refusedRoom
     else record { state = a .state; answered = Written (length (textOf a)) }
 
--- a state that holds a number outside its size or of no variable is refused before all else, then a line longer than a sheet
+-- rules 1.4, 17.4, 17.6: the state comes first, then the length
 unfoldable pub called : State → List ℕ → ℕ → Called
 called s bytes room =
     if not (isValid s) then refusedCall s 0 refusedSize
@@ -61,7 +61,7 @@ called s bytes room =
 unfoldable pub callFilled : State → List ℕ → List ℕ → List ℕ
 callFilled s bytes out = filledBy (called s bytes (length out) .answered) (textOf (bytesAnswer s bytes)) out
 
--- ---- The sheet ends with `end`, `max_reg_allocated`, `num_perm_vars`
+-- ---- The last line, for which the state is only read (rule 17.2)
 
 unfoldable pub lastAnswered : State → ℕ → Answered
 lastAnswered s room = if isValid s then answeredBy (ended (s .counters)) room else Refused 0 refusedSize

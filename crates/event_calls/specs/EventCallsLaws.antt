@@ -1,4 +1,4 @@
--- Laws of a call: there is one answer, it stays within the room, and a refusal leaves state and output untouched.
+-- Laws of a call: there is one answer, it stays within the room, and a refusal leaves state and room as they were.
 use Prim.Native.Nat.{ℕ, _≤_}
 use mathlib.Core.Path.{_≡_, refl, ap, sym, _∙_}
 use mathlib.Core.Bool.{true, false, not}
@@ -22,7 +22,7 @@ use Rattle.valid_states.specs.ValidStates.{isValid}
 use Rattle.event_calls.specs.declared.Called.{Called}
 use Rattle.event_calls.specs.EventCalls.{bytesAnswer, textOf, refusedCall, calledBy, called, callFilled, lastAnswered, lastFilled}
 
--- ---- No second answer fits
+-- ---- No second answer fits (rule 25.2)
 
 pub call-unique :
     (s : State) (bytes out : List ℕ) {a b : Called} {after after′ : List ℕ}
@@ -96,7 +96,7 @@ call-length s bytes out =
     filledBy-length (textOf (bytesAnswer s bytes)) out 1 (called s bytes (length out) .answered)
     (call-within s bytes (length out))
 
--- a refusal leaves state and output untouched
+-- rule 1.3: a refusal leaves state and room as they were
 pub refused-untouched :
     (s : State) (bytes out : List ℕ) (line refusal : ℕ) → called s bytes (length out) .answered ≡ Refused line refusal
     → (called s bytes (length out) .state ≡ s) × (callFilled s bytes out ≡ out)

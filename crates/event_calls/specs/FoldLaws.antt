@@ -1,4 +1,4 @@
--- The whole sheet is the fold of the line call over its lines: the same text, the same refusal at the same line.
+-- Rule 17.8: the whole sheet is the fold of the line call over its lines: the same text, the same refusal at the same line.
 use Prim.Native.Nat.{ℕ, suc, _≤_, _<_}
 use mathlib.Core.Path.{_≡_, refl, ap, ap₂, subst, sym, _∙_}
 use mathlib.Core.Bool.{true, false}
@@ -233,7 +233,7 @@ lines-valid (line ∷ lines) s full valid =
     let after = line-valid s full valid line in
     simp (valid, lines-valid lines (lineAnswer s line .state) (after .0) (after .1))
 
--- so a host that lends room for the longest text is answered as the whole sheet is, which is no longer than a sheet may be
+-- rule 17.8: so a host that lends room for the longest text is answered as the sheet is, where that is not too long
 pub fold-is-sheet :
     (text out : List ℕ) → length (withFeed text) ≤ sheetBytes → longest ≤ length out
     → fed freshState out 1 (split lineFeed text) ≡ sheetRan (withFeed text)

@@ -1,4 +1,4 @@
--- What one field of an event's line says, or one entry of its list.
+-- What one field of an event's line says, or one entry of its list; other bytes have no form: rules 2.4, 5.3 to 5.5, 5.9.
 use Prim.Native.Nat.{ℕ, _+_}
 use mathlib.Core.Bool.{_&&_}
 use mathlib.Core.List.{List}
@@ -30,12 +30,12 @@ use Rattle.event_fields.specs.declared.ContextField.the-variants.{Of as 
 
 -- ---- Target, level and context
 
--- target is `f` or `q`
+-- rule 5.4: a fact or a query
 unfoldable pub targetOf : List ℕ → TargetField
 targetOf field =
     if same field (bytes "f") then ofTarget Fact else if same field (bytes "q") then ofTarget Query else noTarget
 
--- level `r`, `s` or `d`
+-- rule 5.4: by itself, an argument, or deep
 unfoldable pub levelOf : List ℕ → LevelField
 levelOf field =
     if same field (bytes "r")
@@ -50,7 +50,7 @@ abbrev pub inLast : Number → ContextField
 inLast (Of chunk) = ofContext (Last chunk)
 inLast Malformed = noContext
 
--- context is `h`, `m`N or `l`N
+-- rule 5.3: the head, inside a chunk, or the last goal of one
 unfoldable pub contextOf : List ℕ → ContextField
 contextOf field =
     if same field (bytes "h")
@@ -82,7 +82,7 @@ coded noContext register = Malformed
 abbrev pub colon : ℕ
 colon = byte ":"
 
--- a pair such as `h:1` or `l2:3`
+-- rule 5.5: one use, which is a context, a colon and a register
 unfoldable pub useOf : List ℕ → Number
 useOf part = coded (contextOf (before colon part)) (numberOf (after colon part))
 
@@ -97,7 +97,7 @@ abbrev pub named : Number → Number
 named (Of v) = Of (variableEntry v)
 named Malformed = Malformed
 
--- a variable or `-`
+-- rule 5.9: one argument of a head
 unfoldable pub argumentOf : List ℕ → Number
 argumentOf field = if same field (bytes "-") then Of noVariable else named (numberOf field)
 

@@ -1,4 +1,4 @@
--- The words of lines, numbered from 1, and the events that those numbers name.
+-- The words of lines, numbered from 1, and the events that those numbers name: rules 5.6 to 5.27.
 use Prim.Native.Nat.{ℕ, suc}
 use mathlib.Core.List.{List, [], _∷_}
 use lib.Dec.{eqb}
@@ -10,7 +10,7 @@ use Rattle.events.specs.declared.Event.the-variants.{Perm, Sets, Args, Cut, Inc
 use Rattle.event_lines.specs.declared.Line.{Line}
 use Rattle.event_lines.specs.declared.Line.the-variants.{Malformed, Says}
 
--- `open` has three numbers; three words have a term's place; three have a list
+-- `open` has three numbers (rule 5.21), three words a term's place (rules 5.11 to 5.13), three a list (rules 5.6, 5.9, 5.24)
 abbrev pub otherWords : List (List ℕ)
 otherWords =
     bytes "open"
@@ -22,7 +22,7 @@ otherWords =
     ∷ bytes "close"
     ∷ []
 
--- before them six words with one number and three with two
+-- before them words with one number (rules 5.7, 5.10, 5.15, 5.17 to 5.19) and with two (rules 5.14, 5.16, 5.22)
 abbrev pub numberWords : List (List ℕ)
 numberWords =
     bytes "perm"
@@ -36,7 +36,7 @@ numberWords =
     ∷ bytes "arm"
     ∷ otherWords
 
--- before them six that stand alone
+-- before them words that stand alone (rules 5.8, 5.20, 5.23, 5.25 to 5.27)
 abbrev pub lineWords : List (List ℕ)
 lineWords =
     bytes "sets"
@@ -63,6 +63,6 @@ bareSaid code = saidAmong 1 (Sets ∷ Next ∷ Take ∷ Reset ∷ Contents ∷ C
 abbrev pub oneSaid : ℕ → ℕ → Line
 oneSaid code n = saidAmong 7 (Perm n ∷ Args n ∷ Incr n ∷ Safe n ∷ Give n ∷ Tail n ∷ []) code
 
--- `cut` v chunk, `free` chunk v, `arm` start span
+-- rules 5.14, 5.16: `cut` names its variable first, `free` its chunk
 abbrev pub twoSaid : ℕ → ℕ → ℕ → Line
 twoSaid code a b = saidAmong 13 (Cut a b ∷ Free a b ∷ Arm a b ∷ []) code

@@ -1,4 +1,4 @@
--- What a line of an event sheet says, by its fields, and the entries of its list.
+-- What a line of an event sheet says, by its fields, and the entries of its list: rules 2.2, 4.1, 4.13, 5.5 to 5.27.
 use Prim.Native.Nat.{ℕ}
 use mathlib.Core.Bool.{Bool, true, false, _&&_}
 use mathlib.Core.List.{List, [], _∷_}
@@ -34,7 +34,7 @@ use Rattle.event_lines.specs.declared.Counted.{Counted}
 use Rattle.event_lines.specs.declared.Counted.the-variants.{Of as ofCount, Malformed as noCount}
 use Rattle.event_lines.specs.Codes.{wordCode, bareSaid, oneSaid, twoSaid}
 
--- ---- Fields that are numbers, so many and no more
+-- ---- Fields that are numbers (rule 2.3), so many and no more
 
 unfoldable pub oneNumber : List (List ℕ) → Number
 oneNumber [] = noNumber
@@ -73,12 +73,12 @@ abbrev pub withTwo : ℕ → TwoNumbers → Line
 withTwo code (ofTwo a b) = twoSaid code a b
 withTwo code noTwo = Malformed
 
--- `open` start span arms
+-- rule 5.21
 abbrev pub withThree : ThreeNumbers → Line
 withThree (ofThree start span arms) = Says (Open start span arms) 0
 withThree noThree = Malformed
 
--- ---- `var` target level context v; `anon` target level context; `nonvar` target level context cell
+-- ---- `var`, `anon` and `nonvar`: rules 5.11 to 5.13
 
 abbrev pub varLine : Target → Level → GenContext → Number → Line
 varLine target level context (Of v) = Says (Var target level context v) 0
@@ -117,7 +117,7 @@ abbrev pub isEntry : Number → Bool
 isEntry (Of n) = true
 isEntry noNumber = false
 
--- every part has the form of an entry
+-- rule 4.13: whether the list, taken whole, has its form
 unfoldable pub allEntries : Entries → List (List ℕ) → Bool
 allEntries entries [] = true
 allEntries entries (part ∷ parts) = isEntry (entryOf entries part) && allEntries entries parts
@@ -137,7 +137,7 @@ leading entries (part ∷ parts) = inFrontOf (entryOf entries part) (leading ent
 abbrev pub comma : ℕ
 comma = byte ","
 
--- one field: `-`, or uses parted by commas
+-- rule 5.5: one field, which is `-` or uses with a comma between two
 unfoldable pub usesCount : List (List ℕ) → Counted
 usesCount [] = noCount
 usesCount (field ∷ []) = if same field (bytes "-") then ofCount 0 else counted Uses (split comma field)
@@ -154,7 +154,7 @@ recorded (Of occurrences) (ofContext context) noCount = Malformed
 recorded (Of occurrences) noContext uses = Malformed
 recorded noNumber context uses = Malformed
 
--- `temp` context occurrences uses
+-- rule 5.6
 unfoldable pub tempLine : List (List ℕ) → Line
 tempLine [] = Malformed
 tempLine (context ∷ []) = Malformed
@@ -165,7 +165,7 @@ tempList [] = []
 tempList (context ∷ []) = []
 tempList (context ∷ (occurrences ∷ fields)) = usesList fields
 
--- `head` with one field per argument
+-- rule 5.9
 abbrev pub headed : Counted → Line
 headed (ofCount n) = Says Head n
 headed noCount = Malformed
@@ -175,7 +175,7 @@ closed (Of depth) (ofCount n) = Says (Close depth) n
 closed (Of depth) noCount = Malformed
 closed noNumber variables = Malformed
 
--- `close` depth v... (none or more)
+-- rule 5.24
 unfoldable pub closeLine : List (List ℕ) → Line
 closeLine [] = Malformed
 closeLine (depth ∷ fields) = closed (numberOf depth) (counted Variables fields)
@@ -190,7 +190,7 @@ listLine code fields =
     else if eqb code 21 then headed (counted Arguments fields)
     else if eqb code 22 then closeLine fields else Malformed
 
--- ---- A line: its word's number decides how the fields behind it are read; a number of no word makes no line
+-- ---- A line: its word's number decides how the fields behind it are read; a number of no word makes no line, rule 4.1
 
 unfoldable pub saidBy : ℕ → List (List ℕ) → Line
 saidBy code fields =
@@ -215,10 +215,9 @@ unfoldable pub fieldsList : List (List ℕ) → List ℕ
 fieldsList [] = []
 fieldsList (word ∷ fields) = entriesBy (wordCode word) fields
 
--- what a line says
+-- rule 2.2: a line is its fields, of which the first is its word
 unfoldable pub lineSays : List ℕ → Line
 lineSays line = fieldsSay (split tab line)
 
--- the entries of its list
 unfoldable pub lineList : List ℕ → List ℕ
 lineList line = fieldsList (split tab line)

@@ -1,4 +1,4 @@
--- A line of each word, and lines that have no form.
+-- A line of each word, and lines that have no form: rules 2.4, 5.6 to 5.27.
 use Prim.Native.Nat.{ℕ}
 use mathlib.Core.Path.{_≡_, refl}
 use mathlib.Core.List.{List, [], _∷_, map}
@@ -18,7 +18,7 @@ use Rattle.event_lines.specs.declared.Line.the-variants.{Malformed, Says
 use Rattle.event_lines.specs.Codes.{wordCode, saidAmong}
 use Rattle.event_lines.specs.EventLines.{oneNumber, twoNumbers, threeNumbers, bareLine, anonLine, markOf, markLine, allEntries, counted, leading, usesCount, usesList, tempLine, tempList, closeLine, closeList, listLine, saidBy, entriesBy, fieldsSay, fieldsList, lineSays, lineList}
 
--- each word, in document 01's order
+-- each word, in the order of its rules
 abbrev wellFormed : List (List ℕ × Line)
 wellFormed =
     (bytes "temp\tl1\t1\th:1,l2:3", Says (Temp (Last 1) 1) 2)

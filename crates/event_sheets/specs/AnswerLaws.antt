@@ -1,4 +1,4 @@
--- Laws of the answer: what a run that was told makes of it.
+-- Laws of the answer: what the code makes of a run.
 use Prim.Native.Nat.{ℕ, _≤_, _<_}
 use mathlib.Core.Path.{_≡_, refl, ap, ap₂, sym, _∙_}
 use mathlib.Core.Bool.{true, false}

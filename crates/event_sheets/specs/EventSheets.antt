@@ -1,4 +1,4 @@
--- The whole answer to an event sheet, for every list of bytes and every room.
+-- The whole answer to an event sheet, for every list of bytes and every room: rules 1.1, 1.4.
 use Prim.Native.Nat.{ℕ, suc, _-_}
 use mathlib.Core.List.{List, [], _∷_, _++_}
 use lib.Dec.{leb, ltb}
@@ -20,7 +20,7 @@ use Rattle.answered.specs.declared.Answered.{Answered}
 use Rattle.answered.specs.declared.Answered.the-variants.{Written, Refused}
 use Rattle.answered.specs.Answered.{filledBy}
 
--- ---- A line: form first, then the event's own refusals
+-- ---- A line: form first (rule 4.12), then the event's own refusals
 
 abbrev pub saidAnswer : State → Line → List ℕ → Answer
 saidAnswer s Malformed list = refusedWith s refusedForm
@@ -29,7 +29,7 @@ saidAnswer s (Says event count) list = stepped s event list
 unfoldable pub lineAnswer : State → List ℕ → Answer
 lineAnswer s line = saidAnswer s (lineSays line) (lineList line)
 
--- ---- The lines one after the other: a text, or a line and a refusal
+-- ---- The lines of the clause, one after the other (rules 5.1, 16.1): a text, or a line and a refusal
 
 pub record Ran : Type 0 where
   pub text : List ℕ
@@ -42,7 +42,7 @@ refusedAt line refusal = record { text = []; line = line; refusal = refusal }
 abbrev pub behind : List ℕ → Ran → Ran
 behind text r = record { text = text ++ r .text; line = r .line; refusal = r .refusal }
 
--- the sheet ends with `end`, `max_reg_allocated`, `num_perm_vars`
+-- rule 16.4: the two numbers of the last line, and the line
 unfoldable pub maxRegAllocated : Counters → ℕ
 maxRegAllocated c = if leb (c .«temp_lb») (c .«arg_c») then c .«arg_c» else c .«temp_lb»
 
@@ -52,17 +52,17 @@ numPermVars c = c .«perm_lb» - 1
 abbrev pub ended : Counters → Ran
 ended c = record { text = endText (maxRegAllocated c) (numPermVars c); line = 0; refusal = accepted }
 
--- what stands behind the last LF is a line that has none
+-- rules 2.1, 4.14: bytes behind the last LF are a line without one; where there are none, the sheet ends
 unfoldable pub lastRan : Counters → ℕ → List ℕ → Ran
 lastRan c number left = if ltb 0 (length left) then refusedAt number refusedForm else ended c
 
--- the first bad line decides
+-- rule 4.11: a line that is refused ends the work; behind any other line it goes on with the new state
 unfoldable pub lineRan : ℕ → Answer → (State → Ran) → Ran
 lineRan number a others =
     if ltb 0 (a .refusal) then refusedAt number (a .refusal)
     else behind (answerText (a .code) (a .at)) (others (a .state))
 
--- from a state on, the lines from a number on; the last part is what stands behind the last LF
+-- rule 16.1: from a state on, the lines from a number on; the last part is what stands behind the last LF
 unfoldable pub ran : State → ℕ → List (List ℕ) → Ran
 ran s number [] = ended (s .counters)
 ran s number (left ∷ []) = lastRan (s .counters) number left
@@ -71,7 +71,7 @@ ran s number (line ∷ (next ∷ parts)) = lineRan number (lineAnswer s line) (�
 unfoldable pub sheetRan : List ℕ → Ran
 sheetRan sheet = ran freshState 1 (split lineFeed sheet)
 
--- ---- The answer: length first, output last
+-- ---- The answer: length first, room last (rules 3.1, 4.9, 4.10)
 
 unfoldable pub answeredBy : Ran → ℕ → Answered
 answeredBy r room =

@@ -41,7 +41,7 @@ use Rattle.event_sheets.specs.EventSheets.{
 }
 use Rattle.event_sheets.specs.RunningLaws.{ran-refused, ran-accepted}
 
--- ---- No second answer fits
+-- ---- No second answer fits (rule 25.2)
 
 pub answer-unique :
     (sheet out : List ℕ) {a b : Answered} {after after′ : List ℕ}
@@ -104,7 +104,7 @@ lines-in-order (line ∷ lines) s number next others h =
     ∙ behind-behind text (carriedLines (lineAnswer s line .state) lines .text) _
     ∙ ap (λ k. behind (text ++ carriedLines (lineAnswer s line .state) lines .text) (ran (carriedLines (lineAnswer s line .state) lines .state) k (next ∷ others))) n
 
--- so the first bad line decides, whatever stands behind it
+-- rule 4.11: so the first bad line decides, whatever stands behind it
 pub first-bad-decides :
     (lines : List (List ℕ)) (s : State) (number : ℕ) (line next : List ℕ) (others : List (List ℕ))
     → carriedLines s lines .accepts ≡ true
@@ -207,7 +207,7 @@ unfolding filled
 filled-length sheet out =
     filledBy-length (sheetRan sheet .text) out (sheetBytes + 1) (answered sheet (length out)) (answered-within sheet (length out))
 
--- and a refusal leaves each of them as it was
+-- rule 1.3: and a refusal leaves each of them as it was
 pub refused-untouched :
     (sheet out : List ℕ) (line refusal : ℕ) → answered sheet (length out) ≡ Refused line refusal → filled sheet out ≡ out
 unfolding filled

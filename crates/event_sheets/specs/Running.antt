@@ -1,4 +1,4 @@
--- One run over the lines of a sheet: how far a line comes, what the run tells, and what holds between two lines.
+-- One run over the lines of a sheet: how far a line gets, what the run answers, and what holds between two lines.
 use Prim.Native.Nat.{ℕ, _+_, _*_, _≤_}
 use mathlib.Core.Path.{_≡_}
 use mathlib.Core.List.{List}
@@ -19,7 +19,7 @@ use Rattle.answers.specs.AnswersLaws.{longest}
 use Rattle.event_sheets.specs.declared.Run.{Run}
 use Rattle.event_sheets.specs.EventSheets.{Ran, refusedAt, ran, sheetRan}
 
--- how far a line comes: the tables too, also where it is refused
+-- how far a line gets, the tables with it, also where it is refused
 abbrev pub saidActed : State → Line → List ℕ → Answer
 saidActed s Malformed list = withCounters s (byRefusal (s .counters) refusedForm)
 saidActed s (Says event count) list = acted s event list
@@ -31,7 +31,7 @@ lineActed s line = saidActed s (lineSays line) (lineList line)
 unfoldable pub wholeRan : List ℕ → Ran
 wholeRan sheet = if ltb sheetBytes (length sheet) then refusedAt 0 refusedFull else sheetRan sheet
 
--- a run as it is told: the length for the text
+-- a run as the code answers it: the length for the text
 abbrev pub told : Ran → Run
 told r = record { line = r .line; refusal = r .refusal; length = length (r .text) }
 

@@ -62,7 +62,7 @@ module _ (s : State) (line : List ℕ) where
       let entries = taken ∙ ap (take count) read ∙ list-read line list event count cells (sym e ∙ m) .0 in
       made ∙ ap (acted s event) entries ∙ sym (ap (λ l. saidActed s l (lineList line)) (sym e ∙ m))
 
--- what is refused and what is answered is what the line comes to
+-- how far a line got decides whether it is refused or answered
 refused-said :
     (s : State) (said : Line) (list : List ℕ) (b : Answer) → b ≡ saidActed s said list → 0 < b .refusal
     → saidAnswer s said list ≡ refusedWith s (b .refusal)
@@ -173,7 +173,7 @@ told-behind count k text r e =
     let n : count + k + length (r .text) ≡ count + length (text ++ r .text) = omega (arith, length-append text (r .text)) in
     ap (λ (n : ℕ). record { line = r .line; refusal = r .refusal; length = n }) n
 
--- ---- The last part, as it is told
+-- ---- The last part, as the code answers it
 
 module _ (c : Counters) (number count at : ℕ) (out left : List ℕ) where
   pub told-refused :

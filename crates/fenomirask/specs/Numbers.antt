@@ -1,4 +1,4 @@
--- Which answers a host can be told as one signed number.
+-- Which answers fit into one signed number: rule 23.1.
 use Prim.Native.Nat.{_+_, _^_, _≤_, _<_}
 use Rattle.sizes.specs.Sizes.{sheetBytes}
 use Rattle.answered.specs.declared.Answered.{Answered}

@@ -1,4 +1,4 @@
--- Laws of the numbers: every answer to a sheet or a call can be told as one.
+-- Laws of the numbers: every answer to a sheet or a call fits into one.
 use Prim.Native.Nat.{ℕ, _≤_, _<_, _^_, _+_}
 use mathlib.Core.Path.{_≡_, refl, sym, subst}
 use mathlib.Core.Bool.{Bool}
@@ -50,7 +50,7 @@ module _ (sheet : List ℕ) (room : ℕ) (h : room < 2 ^ 63) {a : Answered} wher
       (λ count w. check-written right sheet room count w .0)
       (λ line refusal w. check-line right sheet room line refusal w))
 
--- the same of an answer to a call, which tells line 1 at most
+-- the same of an answer to a call, whose line is 1 at most
 call-fits-within :
     (room : ℕ) (text : List ℕ) (lines : ℕ) (a : Answered) → room < 2 ^ 63 → lines ≤ 1 → Within room text lines a → Fits a
 call-fits-within room text lines (Written count) h few w = omega (arith, w .0)

@@ -1,4 +1,4 @@
--- When what a program was given is all that decides: the end of the input was seen, or more came than a sheet may have.
+-- Whether the input of a program came whole, or is long enough to be refused: rule 22.2.
 use Prim.Native.Nat.{ℕ, zero, suc, _+_}
 use mathlib.Core.Bool.{Bool, true, false, _||_}
 use lib.Dec.{leb}

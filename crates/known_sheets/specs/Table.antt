@@ -1,5 +1,5 @@
--- The sheets with known ends that document 01 marks with P, and sheet 12 as document 02, b, has it, in their order, and more
--- check sheets behind them, on bytes in and bytes out.
+-- The sheets with known ends, rules 24.1 to 24.8, 24.10 to 24.13, each under the second part of its number, and more check
+-- sheets behind them: bytes in, and bytes or a state's sets out.
 use mathlib.Core.List.{List, [], _∷_}
 use Rattle.bit_set.specs.BitSet.{emptySet, inserted}
 use Rattle.known_sheets.specs.Known.{Known, eventSheet, checkSheet, noUseSets, conflictSets}

@@ -1,4 +1,4 @@
--- Every row of the table holds, by computation.
+-- Rule 25.6: every row of the table holds, by computation.
 use mathlib.Core.Path.{refl}
 use Rattle.event_sheets.specs.EventSheets.{lineAnswer, maxRegAllocated, lastRan, lineRan, ran, sheetRan, answeredBy, answered as eventsAnswered, filled as eventsFilled}
 use Rattle.check_sheets.specs.CheckSheets.{lastRead, readFrom, reading, roomed, answered as checkAnswered, filled as checkFilled}

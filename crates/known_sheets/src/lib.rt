@@ -1,1 +1,1 @@
-// Sheets with known ends that are proved, those of document 01 and more check sheets, in one table; there is no code here.
+// Sheets with known ends that are proved, those of docs/RULES.md and more check sheets, in one table; there is no code here.

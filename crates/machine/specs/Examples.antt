@@ -1,4 +1,4 @@
--- The meaning tried: what a call leaves, in laws of any run and on small sheets.
+-- Rule 20.9 tried: what a call leaves, in laws of any run and on small sheets.
 use Prim.Native.Nat.{ℕ, suc}
 use mathlib.Core.Path.{_≡_, refl}
 use mathlib.Core.List.{List, [], _∷_, head-eq-of-cons-eq, tail-eq-of-cons-eq}
@@ -27,7 +27,7 @@ module _ (number : ℕ → ℕ) (leftBy : ℕ → ℕ → ℕ) (m : Machine) whe
   unfolding runFrom
   call-keeps slot = refl
 
--- ---- Sheet 12: a variable of a goal, wanted again after its call, from the place where it was put
+-- ---- Rule 24.12: a variable of a goal, wanted again after its call, from the place where it was put
 
 abbrev wantedAgain : RegType → List CheckLine
 wantedAgain place =

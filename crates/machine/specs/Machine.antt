@@ -1,6 +1,4 @@
--- The machine of a check sheet: registers and slots that hold arbitrary numbers, one further number for each step, and
--- one that each call leaves in each register.
--- After Aït-Kaci, Warren's Abstract Machine: A Tutorial Reconstruction, and documents 01, "Check sheet", and 02, b.
+-- The machine of a check sheet: rules 20.1 to 20.9. After Aït-Kaci, Warren's Abstract Machine: A Tutorial Reconstruction.
 use Prim.Native.Nat.{ℕ, suc}
 use mathlib.Core.Bool.{Bool, false}
 use mathlib.Core.List.{List, [], _∷_, _++_, map}
@@ -15,7 +13,7 @@ use Rattle.steps.specs.declared.Step.the-variants.{Head, HeadDeep, Goal, GoalDe
 use Rattle.steps.specs.declared.CheckLine.{CheckLine}
 use Rattle.steps.specs.declared.CheckLine.the-variants.{Begins, Does}
 
--- ---- What the places hold; a sheet that is read names registers and slots 1 to 63 alone
+-- ---- What the places hold (rule 20.1); a sheet that is read names registers and slots 1 to 63 alone
 
 abbrev pub Contents : Type 0
 Contents = RegType → ℕ
@@ -30,7 +28,7 @@ samePlace (Perm r) (Perm q) = eqb r q
 abbrev pub written : RegType → ℕ → Contents → Contents
 written place n contents other = if samePlace other place then n else contents other
 
--- what `call` leaves: a number of its own in each register, and in each slot what it held
+-- rule 20.9: what the places hold behind a call
 abbrev pub spoilt : (ℕ → ℕ) → Contents → Contents
 spoilt left contents (Temp r) = left r
 spoilt left contents (Perm r) = contents (Perm r)
@@ -94,29 +92,29 @@ module _ (m : Machine) where
         read = read;
       }
 
--- ---- What each instruction does; n is the step's number
+-- ---- What each instruction does, and the subterm that it adds (rule 20.8); n is the step's number
 
 abbrev pub does : ℕ → Machine → Instruction → Machine
--- `get_variable` copies register k to the place
+-- rule 20.2
 does n m (GetVariable place k) = writes m place (m .contents (Temp k))
--- `get_value` demands place = register k
+-- rule 20.3
 does n m (GetValue place k) = demands m (m .contents place) (m .contents (Temp k))
--- `put_variable` writes the step's number to both
+-- rule 20.4
 does n m (PutVariable place k) = writes (writes m place n) (Temp k) n
--- Put copies the place to register k
+-- rule 20.5
 does n m (PutValue place k) = writes m (Temp k) (m .contents place)
 does n m (PutUnsafeValue slot k) = writes m (Temp k) (m .contents (Perm slot))
--- `set_variable` and `unify_variable` write the step's number to the place
+-- rule 20.6
 does n m (SetVariable place) = adds (writes m place n) n
 does n m (UnifyVariable place) = adds (writes m place n) n
--- Set of a value adds the place's content
+-- rule 20.8
 does n m (SetValue place) = adds m (m .contents place)
 does n m (SetLocalValue place) = adds m (m .contents place)
--- Unify of a value demands place = the step's number
+-- rule 20.7
 does n m (UnifyValue place) = adds (demands m (m .contents place) n) n
 does n m (UnifyLocalValue place) = adds (demands m (m .contents place) n) n
 
--- what each step line does: `call` reads the arguments, then spoils the registers; the count of step lines tells calls apart
+-- rule 20.9: a call reads first, then spoils; the count of step lines tells one call from another
 abbrev pub stepped : (ℕ → ℕ → ℕ) → Machine → Step → Machine
 stepped leftBy m (Head k v) = begins m (m .contents) (m .goal) (m .read)
 stepped leftBy m (HeadDeep v) = begins m (m .contents) (m .goal) (m .read)

@@ -1,4 +1,4 @@
--- When the instructions of a check sheet are right. Nothing here says how that is found out.
+-- When the instructions of a check sheet are right: rule 21.5. Nothing here says how that is found out.
 use Prim.Native.Nat.{ℕ}
 use mathlib.Core.Path.{_≡_}
 use mathlib.Core.Logic.{_↔_}
@@ -12,8 +12,8 @@ abbrev pub AllHold : List (ℕ × ℕ) → Type 0
 AllHold [] = Unit {0}
 AllHold ((a, b) ∷ pairs) = (a ≡ b) × AllHold pairs
 
--- for one choice of entry contents, step numbers and numbers that the calls leave: the instructions' equalities all hold just
--- when the variables' do, and where they hold each wanted argument at each call and each subterm is right
+-- rule 21.5 for one choice of the numbers: the demands of both sides hold or fail together, and where they hold, what calls
+-- read and the list of subterms are what is wanted
 pub record RightFor (entry : Contents) (number : ℕ → ℕ) (leftBy : ℕ → ℕ → ℕ) (lines : List CheckLine) : Type 0 where
   pub equalities : AllHold (run entry number leftBy lines .equalities) ↔ AllHold (wanted entry number lines .equalities)
   pub arguments : AllHold (run entry number leftBy lines .equalities) → run entry number leftBy lines .read ≡ wanted entry number lines .arguments

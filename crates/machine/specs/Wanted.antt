@@ -1,4 +1,4 @@
--- What a check sheet's step lines want, for a choice of the entry contents and of each step's number.
+-- What a check sheet's step lines want, for a choice of the entry contents and of each step's number: rules 21.1 to 21.4.
 use Prim.Native.Nat.{ℕ, suc}
 use mathlib.Core.List.{List, [], _∷_, _++_}
 use lib.Dec.{eqb}
@@ -24,7 +24,7 @@ pub record Wanted : Type 0 where
   pub goal : List ℕ
   pub arguments : List ℕ
 
--- the value of a variable whose step offers n: its own, or n where this step is its first
+-- rule 21.1: the value of a variable whose step offers n: its own, or n where this step is its first
 abbrev pub valueOr : Value → ℕ → ℕ
 valueOr unfixed n = n
 valueOr (fixed value) n = value
@@ -32,7 +32,7 @@ valueOr (fixed value) n = value
 abbrev pub valued : ℕ → ℕ → (ℕ → Value) → ℕ → Value
 valued v n values other = if eqb other v then fixed n else values other
 
--- a later head step demands equality
+-- rule 21.2: what a head step demands of a variable that has its value
 abbrev pub demanded : Value → ℕ → List (ℕ × ℕ)
 demanded unfixed n = []
 demanded (fixed value) n = (value, n) ∷ []
@@ -52,7 +52,7 @@ module _ (w : Wanted) (v n : ℕ) where
         arguments = w .arguments;
       }
 
--- the step's own number is the one of the step that begins
+-- rules 21.1 to 21.4 for each kind of step; its own number is the one of the step that begins
 abbrev pub wants : Contents → (ℕ → ℕ) → Wanted → Step → Wanted
 wants entry number w (Head k v) = begins w v (entry (Temp k)) (demanded (w .values v) (entry (Temp k))) [] []
 wants entry number w (HeadDeep v) =

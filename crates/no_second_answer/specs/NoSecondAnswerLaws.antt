@@ -1,5 +1,5 @@
--- No second answer fits: two answers that meet a contract are equal, result, state and every lent byte. Those of check sheets
--- stand in check_exactly.
+-- Rule 25.2: two answers that meet a contract are equal, result, state and every lent byte. Those of check sheets stand in
+-- check_exactly.
 use Prim.Native.Nat.{ℕ}
 use mathlib.Core.Path.{_≡_, ap₂}
 use mathlib.Core.List.{List}
@@ -225,7 +225,7 @@ var-mark-unique x y = (
   no-second-part (λ (m : VarMark). m .marked) x y,
 )
 
--- ---- Every table, and a result spread over what is told
+-- ---- Every table, and a result of several parts
 
 -- `debray_allocator`: act
 pub answer-of-unique :

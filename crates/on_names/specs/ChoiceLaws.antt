@@ -1,5 +1,5 @@
--- What can be chosen for a check sheet has a name: of every choice for a sheet there are names' values that agree with it, and of
--- all names' values a choice.
+-- What can be chosen for a check sheet has a name: of every choice for a sheet there are names' values that agree with it, and
+-- of all names' values a choice.
 use Prim.Native.Nat.{ℕ, zero, suc, _+_, _*_, _/_, _%_}
 use mathlib.Core.Path.{_≡_, refl, sym, ap₂, _∙_}
 use mathlib.Core.Bool.{true}
@@ -41,7 +41,7 @@ module _ (entry : Contents) (number : ℕ → ℕ) (leftBy : ℕ → ℕ → ℕ
   registerValue zero r = entry (Temp r)
   registerValue (suc earlier) r = leftBy (suc earlier) r
 
-  -- what a name names is told by the rest by 3
+  -- what a name names is known by the rest by 3
   abbrev valueAt : ℕ → ℕ → ℕ
   valueAt zero n = registerValue (n / (registers + 1)) (n % (registers + 1))
   valueAt (suc zero) n = entry (Perm n)

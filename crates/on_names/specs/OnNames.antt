@@ -31,8 +31,7 @@ second ρ p = ρ (p .1)
 
 -- ---- When the instructions are right
 
--- for one choice: the pairs demanded all hold just when the pairs wanted do, and where they hold each argument that a call
--- reads is the one wanted, and each subterm
+-- rule 21.5 on names, for one choice of their values
 pub record RightUnder (ρ : ℕ → ℕ) (s : Symbols) : Type 0 where
   pub equalities : Holds ρ (listed (s .doing .demands)) ↔ Holds ρ (listed (s .wanting .wants))
   pub arguments : Holds ρ (listed (s .doing .demands)) → map (first ρ) (listed (s .claims)) ≡ map (second ρ) (listed (s .claims))

@@ -1,5 +1,5 @@
--- A line that nothing refuses before it is carried out: when it is given 4, because the Rust would stop, and when 7, because
--- a list, a queue or a count is full. For `var`, which does many things, only what it may be given is told (Given).
+-- A line that nothing refuses before it is carried out: when it is given 4 and when 7, rules 4.4 and 4.7. Of `var`, which does
+-- many things, only what it may be given is stated (Given).
 use Prim.Native.Nat.{ℕ, _-_, _≤_}
 use mathlib.Core.Path.{_≡_, refl, sym, _∙_}
 use mathlib.Core.Logic.{_↔_}
@@ -69,7 +69,7 @@ choice-exactly :
 choice-exactly refusalIn n true p q = (λ e. refl, λ e. p)
 choice-exactly refusalIn n false p q = (λ e. absurd (q e), λ e. absurd (false≢true e))
 
--- ---- 4: `arm` or `take` with no open branch; 7: no arm index left
+-- ---- `arm` and `take`: rules 4.4, 4.7
 
 module _ (s : State) (list : List ℕ) where
   abbrev pub noOpenBranch : Bool
@@ -111,7 +111,7 @@ module _ (s : State) (list : List ℕ) where
   unfolding refusalBefore refusalBySize
   take-stops = told-exactly s Take list (omega arith) refusedStop take-carried
 
--- ---- 4: `close` deeper than the stack, naming a temporary, or leaving a branch on top that cannot record its variables
+-- ---- `close`: rules 4.4, 15.7
 
 closing :
     (c : Counters) (branches : ℕ) (deeper temporary past : Bool)
@@ -142,7 +142,7 @@ module _ (s : State) (depth : ℕ) (list : List ℕ) where
       → (stepped s (Close depth) list .refusal ≡ refusedStop) ↔ (cannotClose ≡ true)
   close-stops unrefused = told-exactly s (Close depth) list unrefused refusedStop close-carried
 
--- ---- 4: an occurrence recorded at an arm index not below the arm count
+-- ---- An occurrence: rules 4.4, 15.4
 
 pub occurrence-stops :
     (rows sets : List ℕ) (count : ℕ) → eqb count 0 ≡ false
@@ -154,7 +154,7 @@ occurrence-stops rows sets count some =
     choice-exactly recordRefusal refusedStop past refl (λ e. omega arith) in
     simp (some) within
 
--- ---- 4: `safe` on a Pending variable
+-- ---- `safe`: rule 4.4
 
 abbrev pub isPending : VarAlloc → Bool
 isPending (Temp context register safety toPerm) = false
@@ -180,7 +180,7 @@ module _ (s : State) (v : ℕ) (list : List ℕ) where
       → (stepped s (Safe v) list .refusal ≡ refusedStop) ↔ (isPending (recordAt (s .records) v .allocation) ≡ true)
   safe-stops unrefused = told-exactly s (Safe v) list unrefused refusedStop safe-carried
 
--- ---- 7: the freed registers, the open branches, a running count, the freed-slot queue
+-- ---- `give`, `open`, `incr` and `free`: rule 4.7
 
 module _ (s : State) (list : List ℕ) where
   give-carried : (r : ℕ) → (carriedOut s (Give r) list .refusal ≡ refusedFull) ↔ (leb freedRegisters (s .counters .«freed_registers») ≡ true)

@@ -1,9 +1,6 @@
--- A valid state and a line of an event sheet: it is given 1 exactly if its form is wrong; 2 exactly if it is out of order;
--- in order, 3 exactly if a number is outside its size or names no variable; then 7, of most events, exactly if its list is
--- too long, the record is one too many or the argument counter stands at 64 (of the others see CarriedExactly). And a sheet:
--- it is refused as a whole as 7 exactly if it is too long, and as 9 exactly if nothing else refuses it and the text is longer
--- than the room. And a call: it is refused at line 0 as 3 exactly if the state is not valid, and as 7 exactly if the state is
--- valid and the bytes are longer than a sheet; else at line 1 as 1 exactly if the bytes are no line or its form is wrong.
+-- When a refusal is given, both ways (rule 25.3). To a line in a valid state: rules 4.1 to 4.3, and rule 4.7 of events that
+-- fill nothing while they are carried out (of the others see CarriedExactly). To a sheet as a whole: rule 4.10. To a call: its
+-- state, its length and its form, rules 17.3, 17.4, 17.6.
 use Prim.Native.Nat.{ℕ, suc, _≤_, _<_}
 use mathlib.Core.Path.{_≡_, refl, ap, sym, _∙_}
 use mathlib.Core.Logic.{_≢_, _↔_}
@@ -42,7 +39,7 @@ use Rattle.refusals_given.specs.OfEvents.{before-given}
 use Rattle.refusals_given.specs.OfSteps.{CarryingRow, stepped-by}
 use Rattle.refusals_given.specs.RefusalsGiven.{all-so, event-given, sheet-small}
 
--- ---- 1: the form
+-- ---- 1: rule 4.1
 
 module _ (s : State) (full : Full s) (valid : isValid s ≡ true) where
   said-form : (said : Line) (list : List ℕ) → saidAnswer s said list .refusal ≡ refusedForm → said ≡ Malformed
@@ -57,7 +54,7 @@ module _ (s : State) (full : Full s) (valid : isValid s ≡ true) where
   unfolding lineAnswer
   form-exactly line = (said-form (lineSays line) (lineList line), form-given (lineSays line) (lineList line))
 
--- ---- 2 and 3 exactly
+-- ---- 2 and 3: rules 4.2, 4.3
 
 -- no number of what only comes before
 abbrev Late : ℕ → Type 0
@@ -155,11 +152,11 @@ not-full-row Contents only = (omega arith, tt)
 not-full-row ClearFree only = (omega arith, tt)
 
 module _ (s : State) (full : Full s) (valid : isValid s ≡ true) (event : Event) (list : List ℕ) where
-  -- a record after an event
+  -- rule 5.2: a record behind an event
   abbrev pub outOfOrder : Bool
   outOfOrder = isRecord event && ltb 0 (s .counters .«events_seen»)
 
-  -- every number is inside its size, or names a variable that there is
+  -- every number is inside its size, and the variable that is named has a record
   abbrev pub sizesFit : Bool
   sizesFit = inSize (s .counters .records) event list
 
@@ -216,7 +213,7 @@ module _ (s : State) (full : Full s) (valid : isValid s ≡ true) (event : Event
     pub size-exactly : (stepped s event list .refusal ≡ refusedSize) ↔ (sizesFit ≡ false)
     size-exactly = (size-only, size-given)
 
-  -- ---- 7 before a line is carried out, for events of which nothing can be full later
+  -- ---- 7 before a line is carried out (rule 4.7), for events of which nothing can be full later
 
   -- a list that is too long, a record too many, or the argument counter at 64
   abbrev pub tooFull : Bool
@@ -240,7 +237,7 @@ module _ (s : State) (full : Full s) (valid : isValid s ≡ true) (event : Event
     pub full-exactly : FullOnlyBefore event → (stepped s event list .refusal ≡ refusedFull) ↔ (tooFull ≡ true)
     full-exactly only = (full-only (not-full-row event only), full-given)
 
--- ---- A sheet as a whole: 7 for its length, first of all, and 9 for the room, last of all
+-- ---- A sheet as a whole: 7 for its length, first of all, and 9 for the room, last of all (rules 4.9, 4.10)
 
 -- a line that is refused has a number
 abbrev Numbered : Ran → Type 0
@@ -314,7 +311,7 @@ module _ (sheet : List ℕ) (lent : ℕ) where
   pub room-exactly : (answered sheet lent ≡ Refused 0 refusedRoom) ↔ Roomless
   room-exactly = (room-only, room-so)
 
--- ---- A call: 3 for its state, first of all, and then 7 for its length
+-- ---- A call: 3 for its state, first of all, and then 7 for its length (rules 17.4, 17.6)
 
 module _ (s : State) (bytes : List ℕ) (lent : ℕ) where
   -- at line 0 a line is refused for the room alone
@@ -362,7 +359,7 @@ module _ (s : State) (bytes : List ℕ) (lent : ℕ) where
   pub long-exactly : (called s bytes lent .answered ≡ Refused 0 refusedFull) ↔ TooLong
   long-exactly = (long-only, long-given)
 
--- a line is bytes with one LF, which stands behind all others; here there is none, or its form is wrong
+-- rule 17.3: a line is bytes with one LF, which stands behind all others; here there is none, or its form is wrong
 abbrev pub Formless : List (List ℕ) → Type 0
 Formless [] = Unit {0}
 Formless (left ∷ []) = Unit {0}

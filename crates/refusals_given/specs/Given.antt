@@ -5,7 +5,7 @@ use Rattle.refusals.specs.Refusals.{refusedOrder, refusedSize, refusedStop, ref
 use Rattle.events.specs.declared.Event.{Event}
 use Rattle.events.specs.declared.Event.the-variants.{Temp, Perm, Sets, Head, Args, Var, Anon, NonVar, Cut, Incr, Free, Safe, Give, Tail, Next, Open, Arm, Take, Close, Reset, Contents, ClearFree}
 
--- a line whose form is right; 8 is in no row
+-- a line whose form is right; by rule 4.8 no row has 8
 abbrev pub refusalsOf : Event → List ℕ
 refusalsOf (Temp context occurrences) = refusedOrder ∷ (refusedSize ∷ (refusedFull ∷ []))
 refusalsOf (Perm occurrences) = refusedOrder ∷ (refusedSize ∷ (refusedFull ∷ []))

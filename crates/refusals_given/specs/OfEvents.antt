@@ -50,7 +50,7 @@ neither-second true b e = absurd (false≢true (sym e))
 neither-second false b e = e
 
 module _ (P : ℕ → Type 0) (none : P accepted) where
-  -- ---- Before it is carried out: 2, 3, then 7
+  -- ---- Before it is carried out: 2, 3, then 7 (rule 4.12)
 
   pub before-given :
       (c : Counters) (event : Event) (list : List ℕ)

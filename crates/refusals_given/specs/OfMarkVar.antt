@@ -1,4 +1,4 @@
--- What a variable's mark can be given in a valid state.
+-- What a variable's mark can be given in a valid state: rules 4.4 to 4.7.
 use Prim.Native.Nat.{ℕ, _*_, _≤_, _<_}
 use mathlib.Core.Path.{_≡_, _∙_}
 use mathlib.Core.Bool.{Bool, true, false}

@@ -1,4 +1,4 @@
--- What `anon`, `nonvar` and `cut` can be given in any state.
+-- What `anon`, `nonvar` and `cut` can be given in any state: rules 4.5, 4.6.
 use Prim.Native.Nat.{ℕ}
 use mathlib.Core.List.{List}
 use lib.Dec.{eqb, ltb}

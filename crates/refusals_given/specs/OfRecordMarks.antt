@@ -1,4 +1,4 @@
--- Where a mark's variable is a temporary, or permanent and Done, its record leads to no `unreachable` arm.
+-- Rule 4.8: a mark can meet the record of a temporary, and that of a permanent variable that is Done.
 use Prim.Native.Nat.{ℕ, _*_, _<_}
 use mathlib.Core.Path.{_≡_, refl, sym, subst, _∙_}
 use mathlib.Core.Bool.{true, false≢true}

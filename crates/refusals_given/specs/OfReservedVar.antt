@@ -1,4 +1,4 @@
--- In a valid state no instruction for a settled variable is refused but where no register can be had.
+-- In a valid state an instruction for a settled variable is refused by rule 4.5 alone.
 use Prim.Native.Nat.{ℕ, _<_}
 use mathlib.Core.Bool.{Bool}
 use mathlib.Core.List.{List}

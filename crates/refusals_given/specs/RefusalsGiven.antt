@@ -1,5 +1,5 @@
--- A line of an event sheet is given no refusal but those of its row. So no event sheet and no call is ever refused as 8, and
--- each answer is one that the number for a host tells.
+-- A line of an event sheet is given no refusal but those of its row. So no event sheet and no call is given 8 (rule 4.8), and a
+-- host can tell each answer by its number (rule 23.3).
 use Prim.Native.Nat.{ℕ, suc, _≤_}
 use mathlib.Core.Path.{_≡_, refl}
 use mathlib.Core.Logic.{_≢_}

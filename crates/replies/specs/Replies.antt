@@ -1,4 +1,4 @@
--- What is printed of a sheet: its answer, or only `no`, line, number.
+-- What a program prints of a sheet: rule 22.1.
 use Prim.Native.Nat.{ℕ, _≤_}
 use mathlib.Core.Path.{_≡_}
 use mathlib.Core.Bool.{Bool}

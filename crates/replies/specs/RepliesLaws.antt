@@ -22,7 +22,7 @@ use Rattle.check_sheets.specs.CheckSheets as check
 use Rattle.check_sheets.specs.CheckSheetsLaws.{answered-within as check-within}
 use Rattle.replies.specs.Replies.{replied, eventReply, bundleReply, checkReply, Printable, Told}
 
--- ---- Each way to tell an answer
+-- ---- Each way to print an answer
 
 module _ {a : Answered} {number refusal : ℕ} (e : a ≡ Refused number refusal) where
   pub refused-printable : Printable a → number ≤ largestNumber

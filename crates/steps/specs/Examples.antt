@@ -1,4 +1,4 @@
--- Lines in an order, each with its refusal.
+-- Lines in an order, each with its refusal: rules 19.3, 19.4, 19.6 to 19.10.
 use Prim.Native.Nat.{ℕ}
 use mathlib.Core.Path.{_≡_, refl}
 use mathlib.Core.List.{List, [], _∷_}

@@ -1,4 +1,4 @@
--- What is kept of the lines so far, and what it tells of the next one: an order, which sums them up (SumsLaws).
+-- What is kept of the lines so far, and what it says of the next one: an order, which sums them up (SumsLaws).
 use Prim.Native.Nat.{ℕ, _+_}
 use mathlib.Core.Bool.{Bool, true, false, _&&_, _||_}
 use lib.Dec.{eqb, leb}
@@ -38,7 +38,7 @@ kindOf Call = callStep
 
 -- ---- The tests of a line, by an order
 
--- no head step follows a goal step or `call`, so the last step tells
+-- no head step follows a goal step or `call` (rule 19.3), so the last step is enough
 abbrev pub stepBreaks : Order → Step → Bool
 stepBreaks order (Head k v) = leb goalStep (order .kind)
 stepBreaks order (HeadDeep v) = leb goalStep (order .kind)
@@ -109,6 +109,6 @@ judgedAs order line refusal = withRefusal (if eqb refusal accepted then followin
 unfoldable pub judged : Order → CheckLine → Judged
 judged order line = judgedAs order line (refusalBy order line)
 
--- the last step is a goal step
+-- rule 19.9: the last step is a goal step
 unfoldable pub refusalAtEnd : Order → ℕ
 refusalAtEnd order = if eqb (order .kind) goalStep then refusedOrder else accepted

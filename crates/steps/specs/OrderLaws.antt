@@ -51,7 +51,7 @@ module _ (order : Order) (line : CheckLine) (good : judged order line .refusal �
   unfolding judged judgedAs
   accepted-order = simp (eq-eqb (refusalBy order line) accepted good)
 
--- ---- 256 step lines, 4 instructions a step
+-- ---- So many step lines, and so many instructions under each (rule 3.15)
 
 pub begins-few : (order : Order) (step : Step) → judged order (Begins step) .refusal ≡ accepted → order .steps < steps
 begins-few order step good = leb-false steps (order .steps) (line-has-room order (Begins step) good)

@@ -1,4 +1,4 @@
--- The lines of a check sheet, and what refuses one behind the lines before it: order, sizes, and what is full.
+-- The lines of a check sheet, and what refuses one behind the lines before it: rules 3.15, 3.16, 4.12, 19.3 to 19.10.
 -- Lines and steps that stand before are listed with the last one first.
 use Prim.Native.Nat.{ℕ}
 use mathlib.Core.Bool.{Bool, true, false, not, _&&_, _||_}
@@ -31,7 +31,7 @@ instructionsOf [] = []
 instructionsOf (Begins step ∷ earlier) = []
 instructionsOf (Does instruction ∷ earlier) = instruction ∷ instructionsOf earlier
 
--- ---- Instructions by kind
+-- ---- Instructions by kind (rules 19.5 to 19.7)
 
 abbrev pub isPutOrSet : Instruction → Bool
 isPutOrSet (GetVariable place k) = false
@@ -59,7 +59,7 @@ isGetValueOrUnify (UnifyVariable place) = true
 isGetValueOrUnify (UnifyValue place) = true
 isGetValueOrUnify (UnifyLocalValue place) = true
 
--- `put_variable`, `set_variable` and Unify: those that write or demand the step's number
+-- rule 19.7: those that write or demand the step's number
 abbrev pub takesNumber : Instruction → Bool
 takesNumber (GetVariable place k) = false
 takesNumber (GetValue place k) = false
@@ -73,7 +73,7 @@ takesNumber (UnifyVariable place) = true
 takesNumber (UnifyValue place) = true
 takesNumber (UnifyLocalValue place) = true
 
--- ---- Refused as 2
+-- ---- Order: refusal 2
 
 -- whether a goal step or `call` stands before
 unfoldable pub pastHead : List Step → Bool
@@ -93,7 +93,7 @@ inGoal k (Goal other v ∷ earlier) = inGoal k earlier || eqb k other
 inGoal k (GoalDeep v ∷ earlier) = inGoal k earlier
 inGoal k (Call ∷ earlier) = false
 
--- a head step after a goal step or call; the same k twice in a goal
+-- rules 19.3, 19.8: head steps come first, and a goal has each argument once
 abbrev pub stepOutOfOrder : List Step → Step → Bool
 stepOutOfOrder earlier (Head k v) = pastHead earlier
 stepOutOfOrder earlier (HeadDeep v) = pastHead earlier
@@ -101,7 +101,7 @@ stepOutOfOrder earlier (Goal k v) = inGoal k earlier
 stepOutOfOrder earlier (GoalDeep v) = false
 stepOutOfOrder earlier Call = false
 
--- an instruction before any step or under `call`; a head step with Put or Set; a goal step with `get_value` or Unify
+-- rules 19.4 to 19.6: an instruction with no step over it, or with one that does not take it
 abbrev pub misplaced : List Step → Instruction → Bool
 misplaced [] instruction = true
 misplaced (Call ∷ earlier) instruction = true
@@ -115,13 +115,13 @@ unfoldable pub numberTaken : List Instruction → Bool
 numberTaken [] = false
 numberTaken (instruction ∷ earlier) = numberTaken earlier || takesNumber instruction
 
--- a step out of order; an instruction misplaced, or the second of `put_variable`, `set_variable` and Unify in its step
+-- rules 19.7, 19.10: a step's number is taken once; and all other orders are allowed
 abbrev pub isOutOfOrder : List CheckLine → CheckLine → Bool
 isOutOfOrder earlier (Begins step) = stepOutOfOrder (stepsOf earlier) step
 isOutOfOrder earlier (Does instruction) =
     misplaced (stepsOf earlier) instruction || (numberTaken (instructionsOf earlier) && takesNumber instruction)
 
--- goal steps with no `call` after them, at the sheet's end
+-- rule 19.9: at the sheet's end there is a goal without its `call`
 unfoldable pub isUncalled : List Step → Bool
 isUncalled [] = false
 isUncalled (Head k v ∷ earlier) = isUncalled earlier
@@ -130,7 +130,7 @@ isUncalled (Goal k v ∷ earlier) = true
 isUncalled (GoalDeep v ∷ earlier) = true
 isUncalled (Call ∷ earlier) = false
 
--- ---- Refused as 3: every k is a register's number, v is 0..63
+-- ---- Sizes: refusal 3, by rule 3.16
 
 abbrev pub placeFits : RegType → Bool
 placeFits (Temp r) = isRegister r
@@ -160,13 +160,13 @@ abbrev pub fits : CheckLine → Bool
 fits (Begins step) = stepFits step
 fits (Does instruction) = instructionFits instruction
 
--- ---- Refused as 7: 256 step lines, `call` counted, 4 instructions a step
+-- ---- What is full: refusal 7, by rule 3.15
 
 abbrev pub isFull : List CheckLine → CheckLine → Bool
 isFull earlier (Begins step) = leb stepLines (length (stepsOf earlier))
 isFull earlier (Does instruction) = leb stepInstructions (length (instructionsOf earlier))
 
--- ---- 2, 3, then 7
+-- ---- 2, 3, then 7: rule 4.12
 
 abbrev pub firstOf : Bool → Bool → Bool → ℕ
 firstOf outOfOrder inSize full =

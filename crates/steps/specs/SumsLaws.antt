@@ -1,4 +1,4 @@
--- An order sums up the lines so far: what it tells of the next line is what they say of it.
+-- An order sums up the lines so far: it says of the next line what they say of it.
 use Prim.Native.Nat.{ℕ}
 use mathlib.Core.Path.{_≡_, refl, ap, ap₂, sym, _∙_}
 use mathlib.Core.Bool.{true, false, _&&_, _||_}
@@ -32,11 +32,11 @@ pub record Sums (order : Order) (earlier : List CheckLine) : Type 0 where
   pub instructions : order .instructions ≡ length (instructionsOf earlier)
   pub taken : order .«number_taken» ≡ numberTaken (instructionsOf earlier)
   pub goal : (k : ℕ) → has (order .goal) k ≡ inGoal k (stepsOf earlier)
-  -- of lines that were accepted the last step tells whether the head is past, and whether a `call` is missing
+  -- of lines that were accepted the last step shows whether the head is past, and whether a `call` is missing
   pub past : leb goalStep (order .kind) ≡ pastHead (stepsOf earlier)
   pub uncalled : eqb (order .kind) goalStep ≡ isUncalled (stepsOf earlier)
 
--- ---- What is told of the next line, and of the end
+-- ---- What it says of the next line, and of the end
 
 misplaced-under : (earlier : List Step) (instruction : Instruction) → misplacedUnder (lastKind earlier) instruction ≡ misplaced earlier instruction
 unfolding misplacedUnder

@@ -1,5 +1,4 @@
--- A state that a host lends: every stored number below its count is inside its size or names a variable. What lies past a
--- count is not looked at.
+-- When a state that a host lends is valid: rule 17.4. What lies past a count is not looked at: rule 17.5.
 use Prim.Native.Nat.{ℕ, zero, suc, _+_, _*_}
 use mathlib.Core.Bool.{Bool, true, not, _&&_, _||_}
 use mathlib.Core.List.{List}
@@ -25,11 +24,11 @@ allBelow (suc n) test = allBelow n test && test n
 
 -- ---- The counters
 
--- `temp_lb`, `perm_lb` and the argument counter run from 1 to 64
+-- rule 3.11
 abbrev pub isCounter : ℕ → Bool
 isCounter n = leb 1 n && leb n counters
 
--- a set of registers does not hold 0
+-- no set of registers has 0
 abbrev pub isRegisterSet : ℕ → Bool
 isRegisterSet s = not (has s 0)
 
@@ -96,7 +95,7 @@ module _ (s : State) where
   abbrev pub freedSlotFits : ℕ → Bool
   freedSlotFits i = entryFits (entryAt (s .«freed_slots») (s .counters .«first_freed_slot») i)
 
-  -- the members of a set of variables are variables; those of a branch's hits are permanent
+  -- the members of a set of variables have records; those of a branch's recorded set are permanent
   abbrev pub areVariables : ℕ → Bool
   areVariables set = allBelow variables (λ v. not (has set v) || isVariable v)
 

@@ -145,7 +145,7 @@ module _ (s : State) where
       ↔ ((v < s .counters .records) × (isTemporary (s .records) v ≡ false))
   permanent-exactly v = both-exactly (isVariable s v) (not (isTemporary (s .records) v)) (ltb-true v _, lt-ltb v _) (not-true _, ap not)
 
-  -- a branch's hits name permanent variables
+  -- a branch's recorded set has permanent variables alone
   pub are-permanent-exactly :
       (set : ℕ)
       → (arePermanent s set ≡ true)
@@ -156,7 +156,7 @@ module _ (s : State) where
         λ f. all .1 (λ v l m. permanent-exactly v .1 (f v l m)),
       )
 
-  -- every number that counts fits
+  -- rule 17.4: every number that counts fits
   pub valid-exactly :
       (isValid s ≡ true)
       ↔ ((countersFit (s .counters) ≡ true)
@@ -179,7 +179,7 @@ module _ (s : State) where
         λ p. fits .1 (p .0, (p .1, (p .2, (p .3, (p .4, p .5))))),
       )
 
--- ---- A fresh clause
+-- ---- A fresh clause is valid (rule 17.7)
 
 pub fresh-valid : isValid freshState ≡ true
 unfolding isValid allBelow has

@@ -1,5 +1,4 @@
--- A valid state stays valid: after a line that is taken, and after one that is refused, the next line is not refused for the
--- state. A fresh clause is valid.
+-- Rule 17.7: a valid state stays valid, after a line that is taken and after one that is refused. A fresh clause is valid.
 use Prim.Native.Nat.{ℕ}
 use mathlib.Core.Path.{_≡_, refl}
 use mathlib.Core.Bool.{true}

@@ -94,7 +94,7 @@ right-decided s d w right =
       forced-all-same _ demands w (λ ρ h. right ρ .equalities .1 h),
     )
 
--- so it says, of lines in order and in their sizes, whether the instructions are right
+-- so it says, of lines in order and in their sizes, whether the instructions are right by rule 21.5
 pub verdict-exactly :
     (lines : List CheckLine) → allAccepted freshOrder lines ≡ true → (decided (symbolsOf lines) ≡ true) ↔ Right lines
 verdict-exactly lines good = (
