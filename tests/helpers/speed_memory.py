@@ -13,7 +13,6 @@ from helpers.replaying import ROOT
 
 PROGRAMS = os.environ.get("SPEED_PROGRAMS") or os.path.join(ROOT, "target", "bin")
 EMPTY = "#include <unistd.h>\nint main(void) { return write(1, \"\", 1) != 1; }\n"
-GOAL = 2_048  # KiB
 WRITE = "1"  # the system call's number on x86-64
 FOR_MEMORY = {"brk", "mmap", "mremap", "munmap"}
 HEAP = {"malloc", "calloc", "realloc", "free", "aligned_alloc", "posix_memalign", "mmap", "brk", "sbrk"}
@@ -74,29 +73,19 @@ def imported(program):
     return [name for name in names if not name.startswith("__libc_start")]
 
 
-def empty_program(folder):
-    """A program that only writes."""
+def empty(folder):
+    """The KiB that a program holds which only writes."""
     program = os.path.join(folder, "empty")
     subprocess.run(["cc", "-O2", "-x", "c", "-", "-o", program], input=EMPTY.encode(), check=True)
-    return program
+    return min(held(program, os.devnull) for _ in range(RUNS))
 
 
-def row(report, name, file, empty):
-    program = os.path.join(PROGRAMS, name)
+def measured(folder, name, sheet):
+    """What a program holds for a sheet, in KiB; its calls for memory; the functions that it takes from the C library, and
+    those of a heap among them."""
+    program, file = os.path.join(PROGRAMS, name), os.path.join(folder, name + ".sheet")
+    with open(file, "wb") as full:
+        full.write(sheet)
+    functions = imported(program)
     size = max(held(program, file) for _ in range(RUNS))
-    calls, functions = calls_for_memory(program, file), imported(program)
-    report.goal(f"{name}, KiB beyond an empty program", size - empty, GOAL)
-    report.goal(f"{name}, calls for memory", len(calls) + len(HEAP.intersection(functions)), 0)
-    return [name, str(size), str(size - empty), str(len(calls)), " ".join(functions)]
-
-
-def rows(report, folder, sheets):
-    """For each program and its fullest sheet: what it holds, and how it asks for memory."""
-    program, made = empty_program(folder), []
-    for name, sheet in sheets.items():
-        file = os.path.join(folder, name + ".sheet")
-        with open(file, "wb") as full:
-            full.write(sheet)
-        made.append((name, file))
-    empty = min(held(program, os.devnull) for _ in range(RUNS))
-    return [["empty", str(empty), "0", "0", "write"], *(row(report, name, file, empty) for name, file in made)]
+    return size, calls_for_memory(program, file), functions, HEAP.intersection(functions)
