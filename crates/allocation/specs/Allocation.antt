@@ -24,9 +24,9 @@ use Rattle.allocation.specs.declared.Popped.{Popped}
 use Rattle.allocation.specs.declared.NonVar.{NonVar}
 use Rattle.allocation.specs.declared.Placed.{Placed}
 
--- ---- A term that is no variable
+-- ---- A term that is no variable: rule 8.5
 
--- a freed register: the last first, until one is not in use
+-- the freed registers from their end: those in use are dropped, and the first other one is taken
 unfoldable pub popped : Counters → List ℕ → ℕ → Popped
 popped c list zero = record { left = zero; chosen = NoRegister }
 popped c list (suc left) =
@@ -40,7 +40,7 @@ withPopped c left r =
       chosen = Register r;
     }
 
--- the next search starts behind a register that was searched for
+-- the next search starts behind a register that was searched for, and all freed registers were dropped
 abbrev pub withSearched : Counters → ℕ → NonVar
 withSearched c r =
     record {
@@ -52,7 +52,7 @@ abbrev pub searched : Counters → Chosen → NonVar
 searched c (Register r) = withSearched c r
 searched c NoRegister = record { counters = c; chosen = NoRegister }
 
--- a freed register where one is not in use, else the least from temp_lb that is not in the set
+-- a freed register where one is taken, otherwise the least from `temp_lb` up that is not in the set
 abbrev pub nonVarBy : Counters → ℕ → Chosen → NonVar
 nonVarBy c left (Register r) = withPopped c left r
 nonVarBy c left NoRegister = searched c (leastOutside c)
@@ -60,13 +60,14 @@ nonVarBy c left NoRegister = searched c (leastOutside c)
 unfoldable pub nonVar : Counters → List ℕ → NonVar
 nonVar c list = nonVarBy c (popped c list (c .«freed_registers») .left) (popped c list (c .«freed_registers») .chosen)
 
--- ---- A permanent variable
+-- ---- A permanent variable: rules 10.1 to 10.4
 
 abbrev pub withoutFront : Counters → ℕ → Counters
 withoutFront c dropped =
     withFreedSlots (c .«freed_slots» - dropped)
     (withFirstFreedSlot ((c .«first_freed_slot» % freedSlots + dropped % freedSlots) % freedSlots) c)
 
+-- rule 10.4: Done, and both safeties Needed
 unfoldable pub slotGiven : List ℕ → ℕ → ℕ → List ℕ
 slotGiven records v slot = recordPut records v (allocated (recordAt records v) (Perm slot (Done Needed Needed)))
 
@@ -84,14 +85,14 @@ placement records placed = record { records = records; placed = placed }
 abbrev pub placedIn : Counters → ℕ → Placed
 placedIn c place = record { counters = c; place = place; refusal = accepted }
 
--- a new slot, unless the next is 64: refusal 6
+-- rules 4.6 and 10.3: the next slot, unless that is 64
 unfoldable pub newSlot : Counters → List ℕ → ℕ → Placement
 newSlot c records v =
     if ltb registers (c .«perm_lb») then placement records (record { counters = c; place = 0; refusal = refusedSlot })
     else
     placement (slotGiven records v (c .«perm_lb»)) (placedIn (withPermLb (counterAfter (c .«perm_lb»)) c) (c .«perm_lb»))
 
--- A freed slot is taken, and the old owner's slot becomes 0; otherwise a new one.
+-- rules 10.1 and 10.3: the slot that the queue gives, its owner's becoming 0; otherwise the next slot
 unfoldable pub slotFound : Looked → Counters → List ℕ → ℕ → Placement
 slotFound found c records v =
     if ltb 0 (found .slot) then

@@ -1,4 +1,4 @@
--- The numbers of a fresh clause that are no table, and how a counter runs.
+-- The numbers of a fresh clause that are no table, rule 6.2, and how a counter runs.
 use Prim.Native.Nat.{ℕ, _+_}
 use lib.Dec.{ltb}
 use Rattle.notation.specs.Choice.{if_then_else_}
@@ -23,6 +23,6 @@ freshCounters =
       «in_use» = emptySet;
     }
 
--- a counter's next number; it runs to 64 and stays there
+-- rule 3.11: a counter's next number, never past 64
 unfoldable pub counterAfter : ℕ → ℕ
 counterAfter n = if ltb n counters then n + 1 else counters

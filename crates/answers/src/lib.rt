@@ -15,7 +15,7 @@ pub const LONGEST: usize = 256;
 
 pub type Scratch = [u8; LONGEST];
 
-// The place after a text that was added, and the text's length, which is told also where the room has ended.
+// The place after a text that was added, and the text's length, which counts also where the room has ended.
 pub struct Adding {
     pub place: usize,
     pub length: usize,

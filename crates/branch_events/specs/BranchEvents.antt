@@ -40,7 +40,7 @@ releasedWith c refusal = record { counters = c; refusal = refusal }
 abbrev pub branchFrom : ℕ → ℕ → Branch
 branchFrom start span = record { start = start; span = span }
 
--- ---- `open`
+-- ---- `open`: rule 15.2
 
 abbrev pub openReleased : Counters → Opened → Released
 openReleased c (Open branches) = releasedWith (withOpenBranches branches c) (openRefusal (Open branches))
@@ -53,7 +53,7 @@ opened c rows sets start span arms =
     (setsOpened sets (c .«open_branches») (branchFrom start span) arms)
     (openReleased c (opening (c .«open_branches»)))
 
--- ---- `arm`
+-- ---- `arm`: rule 15.3
 
 abbrev pub armReleased : Counters → Advanced → Released
 armReleased c a = releasedWith c (armRefusal a)
@@ -65,7 +65,7 @@ armed c rows sets start span =
     (setsAdvanced rows sets (c .«open_branches») (branchFrom start span))
     (armReleased c (advanced rows sets (c .«open_branches»)))
 
--- ---- `take`
+-- ---- `take`: rule 15.5
 
 abbrev pub takeReleased : Counters → Taken → Released
 takeReleased c t = releasedWith c (takeRefusal t)
@@ -78,7 +78,7 @@ stockTaken c records rows sets =
     (setsTaken records rows sets (c .«open_branches»))
     (takeReleased c (taken records rows sets (c .«open_branches»)))
 
--- ---- `close`
+-- ---- `close`: rules 15.6 and 15.7
 
 abbrev pub closeReleased : Counters → Popped → Released
 closeReleased c (Left branches) = releasedWith (withOpenBranches branches c) (closeRefusal (Left branches))

@@ -1,4 +1,4 @@
--- The stack of open branches, as two tables of rows.
+-- The open branches, rule 15.1, as two tables of rows.
 use Prim.Native.Nat.{ℕ, _+_, _-_, _*_, _%_}
 use mathlib.Core.List.{List}
 use lib.Dec.{eqb}
@@ -48,7 +48,7 @@ setsPut sets level branch =
     (setStart level + 2)
     (branch .«subsumed_hits»)
 
--- a branch that is opened has recorded nothing
+-- rule 15.2: a branch that is opened has index 0 and empty sets
 abbrev pub branchOpened : Branch → ℕ → BranchOccurrences
 branchOpened branch arms =
     record {
@@ -60,6 +60,6 @@ branchOpened branch arms =
       «subsumed_hits» = emptySet;
     }
 
--- the innermost open branch, or the default
+-- rule 6.6: the current branch, the innermost open one or the default
 unfoldable pub currentBranch : List ℕ → ℕ → Branch
 currentBranch rows opened = if eqb opened 0 then defaultBranch else branchAt rows (opened - 1)

@@ -1,5 +1,4 @@
--- Branches: what `open`, `arm`, `take` and `close` do to the stack of open branches and to the records, and what is
--- recorded of a variable's occurrence.
+-- What `open`, `arm`, `take` and `close` do to the open branches and to the records, and how an occurrence is recorded.
 use Prim.Native.Nat.{ℕ, _+_, _-_}
 use mathlib.Core.Bool.{Bool, true, false, not, _||_}
 use mathlib.Core.List.{List, [], _∷_}
@@ -33,7 +32,7 @@ use Rattle.branches.specs.declared.Guards.{Guards}
 use Rattle.notation.specs.Lists.{numbersFrom}
 use Rattle.branches.specs.Lists.{members, each}
 
--- ---- The refusal of each answer, by its number; 0 where there is none
+-- ---- The refusal of each answer, by its number, rules 4.4, 4.7 and 4.8; 0 where there is none
 
 abbrev pub openRefusal : Opened → ℕ
 openRefusal (Open branches) = accepted
@@ -59,7 +58,7 @@ closeRefusal TooDeep = refusedStop
 closeRefusal ClosesTemporary = refusedStop
 closeRefusal PastOuterArms = refusedStop
 
--- a refusal leaves a table as it was
+-- rule 1.3: a refusal leaves a table as it was
 abbrev pub unlessRefused : ℕ → List ℕ → List ℕ → List ℕ
 unlessRefused refusal before after = if eqb refusal accepted then after else before
 
@@ -98,11 +97,11 @@ withSubsumed branch subsumed =
       «subsumed_hits» = subsumed;
     }
 
--- at an arm index not below the arm count nothing can be recorded
+-- where the index is not below the arms, nothing can be recorded
 abbrev pub pastArms : BranchOccurrences → Bool
 pastArms branch = leb (branch .«num_branches») (branch .«current_branch_idx»)
 
--- ---- `open`
+-- ---- `open`: rule 15.2
 
 unfoldable pub opening : ℕ → Opened
 opening opened = if leb openBranches opened then Full else Open (opened + 1)
@@ -113,7 +112,7 @@ rowsOpened rows opened branch arms = unlessRefused (openRefusal (opening opened)
 unfoldable pub setsOpened : List ℕ → ℕ → Branch → ℕ → List ℕ
 setsOpened sets opened branch arms = unlessRefused (openRefusal (opening opened)) sets (setsPut sets opened (branchOpened branch arms))
 
--- ---- `arm`: on to the next arm, which is a branch of its own
+-- ---- `arm`, rule 15.3: another start and span, and the next index
 
 abbrev pub nextArm : BranchOccurrences → Branch → BranchOccurrences
 nextArm top branch =
@@ -139,7 +138,7 @@ module _ (rows sets : List ℕ) (opened : ℕ) where
   unfoldable pub setsAdvanced : Branch → List ℕ
   setsAdvanced branch = unlessRefused (armRefusal advanced) sets (setsTop sets opened (nextArm (topOf rows sets opened) branch))
 
--- ---- An occurrence of a variable: the innermost branch, if there is one, records it
+-- ---- An occurrence of a variable, rule 15.4: the current branch records it, if one is open
 
 abbrev pub occurrenceAdded : BranchOccurrences → ℕ → BranchOccurrences
 occurrenceAdded top v = withSubsumed top (inserted (top .«subsumed_hits») v)
@@ -154,13 +153,13 @@ module _ (rows sets : List ℕ) (opened : ℕ) where
   unfoldable pub setsRecorded : ℕ → List ℕ
   setsRecorded v = unlessRefused (recordRefusal recorded) sets (setsTop sets opened (occurrenceAdded (topOf rows sets opened) v))
 
--- ---- `close`: so many levels are removed, with the variables that occurred there
+-- ---- `close`, rules 15.6 and 15.7: so many branches are taken away, and variables are named
 
 unfoldable pub namesTemporary : List ℕ → List ℕ → Bool
 namesTemporary records [] = false
 namesTemporary records (v ∷ vs) = isTemporary records v || namesTemporary records vs
 
--- the branch left on top, if there is one, has to record each variable, and cannot
+-- the branch that is left, if one is, has to record each variable, and cannot
 unfoldable pub nowhereRecorded : List ℕ → List ℕ → ℕ → List ℕ → Bool
 nowhereRecorded rows sets left vs =
     if eqb left 0 then false else if eqb (length vs) 0 then false else pastArms (topOf rows sets left)
@@ -172,7 +171,7 @@ shallowJoined rows sets set level = union set (occurrencesAt rows sets level .«
 abbrev pub deepJoined : List ℕ → List ℕ → ℕ → ℕ → ℕ
 deepJoined rows sets set level = union set (occurrencesAt rows sets level .«deep_safety»)
 
--- the branch left on top, its sets joined by those of each level removed
+-- the branch that is left: it gets the variables to be guarded of each that goes
 unfoldable pub branchMet : List ℕ → List ℕ → ℕ → ℕ → BranchOccurrences
 branchMet rows sets left opened =
     let top = topOf rows sets left in
@@ -181,7 +180,7 @@ branchMet rows sets left opened =
     (each (shallowJoined rows sets) (top .«shallow_safety») removed)
     (each (deepJoined rows sets) (top .«deep_safety») removed)
 
--- Done, a safety needed if the variable is in its set; the slot is kept
+-- Done with its slot kept, each safety Needed where the variable is to be guarded
 unfoldable pub allocationMet : BranchOccurrences → ℕ → VarAlloc → VarAlloc
 allocationMet met v (Temp context register safety toPerm) = Temp context register safety toPerm
 allocationMet met v (Perm slot allocation) =
@@ -190,7 +189,7 @@ allocationMet met v (Perm slot allocation) =
     (neededIf (has (met .«shallow_safety») v) (met .«current_branch_num»))
     (neededIf (has (met .«deep_safety») v) (met .«current_branch_num»)))
 
--- so it goes with a variable that is to occur again
+-- so it goes with a variable whose running count is below its occurrences
 unfoldable pub variableClosed : BranchOccurrences → List ℕ → ℕ → List ℕ
 variableClosed met records v =
     let variable = recordAt records v in
@@ -220,12 +219,12 @@ module _ (records rows sets : List ℕ) (opened depth : ℕ) (vs : List ℕ) whe
   unfoldable pub setsPopped : List ℕ
   setsPopped = unlessRefused (closeRefusal popped) sets (setsTop sets (opened - depth) (occurrencesAdded leftOnTop vs))
 
--- ---- `take`: stock is taken of the variables recorded, each permanent
+-- ---- `take`, rule 15.5: the variables that are recorded, each of them permanent
 
 abbrev pub noGuards : Guards
 noGuards = record { shallow = false; deep = false }
 
--- a variable that is Done needs a guard unless its safety is unneeded in the branch
+-- a variable that is Done is to be guarded where its safety is not unneeded in the branch
 unfoldable pub guardsIn : Branch → VarAlloc → Guards
 guardsIn branch (Temp context register safety toPerm) = noGuards
 guardsIn branch (Perm slot Pending) = noGuards
@@ -241,14 +240,14 @@ guardsIfMember records top v = if has (top .«subsumed_hits») v then guardsAt r
 unfoldable pub insertedIf : ℕ → ℕ → Bool → ℕ
 insertedIf set v wanted = if wanted then inserted set v else set
 
--- a set joined by a variable that needs the guard
+-- a set joined by a variable that is to be guarded so
 abbrev pub shallowTaken : List ℕ → BranchOccurrences → ℕ → ℕ → ℕ
 shallowTaken records top set v = insertedIf set v (guardsAt records top v .shallow)
 
 abbrev pub deepTaken : List ℕ → BranchOccurrences → ℕ → ℕ → ℕ
 deepTaken records top set v = insertedIf set v (guardsAt records top v .deep)
 
--- each variable recorded joins the sets of the guards that it needs, and then nothing is recorded
+-- each variable that is recorded joins the sets of how it is to be guarded, and then nothing is recorded
 unfoldable pub safetyTaken : List ℕ → BranchOccurrences → BranchOccurrences
 safetyTaken records top =
     let recorded = members (top .«subsumed_hits») in

@@ -1,4 +1,4 @@
--- Branches, once through: in the second arm of one branch another is opened, a variable occurs in it, and it is closed.
+-- Rules 15.2 to 15.6, tried: in the second arm of one branch another is opened, a variable occurs in it, and it is closed.
 -- The variable had to be guarded as an argument and not as a subterm; so it has to be in the outer branch, which records it.
 use Prim.Native.Nat.{ℕ}
 use mathlib.Core.Path.{_≡_, refl}

@@ -25,33 +25,33 @@ use variable_records::PermVarAllocation;
 use variable_records::Records;
 use variable_records::VarAlloc;
 
-// What opening a branch comes to: so many are open, or one too many would be.
+// The outcome of opening a branch: so many are open, or one too many would be.
 pub enum Opened {
     Open(u32),
     Full,
 }
 
-// What going on to the next arm comes to.
+// The outcome of going on to the next arm.
 pub enum Advanced {
     NextArm,
     NoneToAdvance,
     ArmsFull,
 }
 
-// What recording an occurrence comes to.
+// The outcome of recording an occurrence.
 pub enum Recorded {
     Well,
     PastArms,
 }
 
-// What taking stock of an arm comes to.
+// The outcome of taking stock of an arm.
 pub enum Taken {
     Took,
     NoneToTake,
     TakesTemporary,
 }
 
-// What closing branches comes to: so many are left open, or why none was closed.
+// The outcome of closing branches: so many are left open, or why none was closed.
 pub enum Popped {
     Left(u32),
     TooDeep,

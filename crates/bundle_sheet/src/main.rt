@@ -20,7 +20,7 @@ fn answer(bundle: &[u8]) {
     }
 }
 
-// Reads until the room is full, the input ends or a read fails; what the last read answered. A failure is told once by some
+// Reads until the room is full, the input ends or a read fails; what the last read answered. A failure is reported once by some
 // inputs, and then an end that is none: so nothing is read behind one. Each turn but the last brings a byte.
 fn read_input(input: &mut [u8], came: &mut usize) -> isize {
     let mut last = AT_THE_END;

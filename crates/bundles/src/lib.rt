@@ -57,7 +57,7 @@ fn end_of_clause(rest: &[u8]) -> usize
     bytes
 }
 
-// Puts the line of a refusal at a place; its length, which is told also where the room has ended.
+// Puts the line of a refusal at a place; its length, which counts also where the room has ended.
 fn add_refusal(out: &mut [u8], at: usize, line: u32, refusal: u32) -> usize
     ensures { λ r. ⌜ r ≡ length (refusalText line refusal) ⌝ }
     ensures { λ _. ⌜ now (out .exit) ≡ printed (now (out .entry)) at (refusalText line refusal) ⌝ }

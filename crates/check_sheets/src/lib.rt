@@ -35,7 +35,7 @@ use symbolic::Values;
 // The bytes of a verdict.
 pub const VERDICT_BYTES: usize = 9;
 
-// What the lines come to: the first bad one and its refusal, or whether the instructions are right.
+// The outcome of the lines: the first bad one and its refusal, or whether the instructions are right.
 enum Run {
     Refused(usize, u32),
     Decided(bool),
@@ -97,7 +97,7 @@ fn one_less(number: usize) -> usize
     number - 1
 }
 
-// What stands behind the last LF is a line that has none, and goal steps with no `call` after them are told at the last line;
+// What stands behind the last LF is a line that has none, and goal steps with no `call` after them are reported at the last line;
 // otherwise the verdict is given.
 fn finish(
     order: Order,

@@ -1,4 +1,4 @@
--- The rules by which a register is chosen.
+-- The choice of a register.
 use Prim.Native.Nat.{ℕ, suc, _-_}
 use mathlib.Core.Bool.{Bool, not, _&&_, _||_}
 use mathlib.Core.List.{List, [], _∷_, map}
@@ -12,7 +12,7 @@ use Rattle.temp_var_data.specs.Uses.{registerOf}
 use Rattle.choice.specs.declared.Chosen.{Chosen}
 use Rattle.choice.specs.declared.Chosen.the-variants.{Register, NoRegister}
 
--- In use: from arg_c to arity, or in the set.
+-- rule 8.1: between `arg_c` and `arity`, both included, or in the set of registers in use
 unfoldable pub inUse : Counters → ℕ → Bool
 inUse c r = leb (c .«arg_c») r && leb r (c .arity) || has (c .«in_use») r
 
@@ -25,11 +25,11 @@ first test (r ∷ rs) = if test r then Register r else first test rs
 unfoldable pub registersFrom : ℕ → List ℕ
 registersFrom r = numbersFrom r (suc registers - r)
 
--- A use-set register not in use wins, in list order.
+-- rule 8.2: the first use whose register is not in use
 unfoldable pub firstUnused : Counters → List ℕ → Chosen
 firstUnused c useSet = first (λ r. not (inUse c r)) (map registerOf useSet)
 
--- Otherwise the least register from temp_lb that is not in use and is not to be avoided.
+-- rule 8.3: the least register from `temp_lb` up that is neither in use nor to be avoided
 unfoldable pub isFree : Counters → ℕ → ℕ → Bool
 isFree c avoided r = not (inUse c r) && not (has avoided r)
 
@@ -40,10 +40,10 @@ unfoldable pub otherwise : Chosen → Chosen → Chosen
 otherwise (Register r) other = Register r
 otherwise NoRegister other = other
 
--- the choice for a variable, by its use set and what it avoids: no-use, and conflict in alloc_with_ca
+-- rules 8.2 to 8.4: the choice for a variable, by its use set and what it avoids; no counter changes
 unfoldable pub chosen : Counters → List ℕ → ℕ → Chosen
 chosen c useSet avoided = otherwise (firstUnused c useSet) (leastFree c avoided)
 
--- The search for a non-variable tests only the set.
+-- rule 8.5: the search for another term, which looks at the set alone
 unfoldable pub leastOutside : Counters → Chosen
 leastOutside c = first (λ r. not (has (c .«in_use») r)) (registersFrom (c .«temp_lb»))

@@ -1,5 +1,4 @@
--- The rules of choosing as plain facts: a use-set register not in use wins, in list order, even if it is to be avoided;
--- otherwise the least register from temp_lb that is not in use and not to be avoided.
+-- The choice for a variable as plain facts: rules 8.2 and 8.3.
 use Prim.Native.Nat.{ℕ, zero, suc, _+_, _-_, _≤_, _<_}
 use mathlib.Core.Path.{_≡_, refl, ap, sym, subst, _∙_}
 use mathlib.Core.Bool.{Bool, true, false, true≢false, false≢true}
@@ -85,13 +84,13 @@ least-exactly test n r h =
     let e : n + (suc registers - n) ≡ suc registers = omega arith in
     (λ x. rw e at (first-least test (suc registers - n) n r x), λ l. least-first test (suc registers - n) n r (rw e l))
 
--- a use-set register not in use wins, whatever is to be avoided
+-- rule 8.2: a use whose register is not in use gives it, whatever is to be avoided
 pub use-set-wins :
     (c : Counters) (uses : List ℕ) (avoided r : ℕ) → firstUnused c uses ≡ Register r → chosen c uses avoided ≡ Register r
 unfolding chosen otherwise
 use-set-wins c uses avoided r e = rw e
 
--- otherwise the least that is free
+-- rule 8.3: otherwise the least that is free
 pub otherwise-least :
     (c : Counters) (uses : List ℕ) (avoided : ℕ) → firstUnused c uses ≡ NoRegister → chosen c uses avoided ≡ leastFree c avoided
 unfolding chosen otherwise

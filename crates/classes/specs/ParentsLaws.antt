@@ -66,7 +66,7 @@ module _ (parents : List ℕ) (falling : Falling parents) (x parent : ℕ) (insi
 
 -- ---- A walk from x
 
--- where it has come to: a name with the label of x, and its parent
+-- where it stands now: a name with the label of x, and its parent
 pub record Walked (before : List ℕ) (x : ℕ) (parents : List ℕ) (name parent : ℕ) : Type 0 where
   pub inside : name < names
   pub up : parent ≡ getD parents name 0

@@ -64,7 +64,7 @@ pub record Recording : Type 0 where
 abbrev pub recording : Rows → Released → Recording
 recording t released = record { tables = t; released = released }
 
--- perm: slot 0, Pending; a 65th record is refused as 7
+-- rules 4.7 and 6.4: a permanent variable, unless the record is the 65th
 unfoldable pub permRecorded : Counters → Rows → ℕ → Recording
 permRecorded c t occurrences =
     if leb variables (c .records) then recording t (refused c)
@@ -83,7 +83,7 @@ abbrev pub withUse : ℕ → UseTables → ℕ → UseTables
 withUse v t code =
     useTables (useSetsWith (t .useSets) (t .useCounts) v code) (useCountsWith (t .useSets) (t .useCounts) v code)
 
--- the uses of a list, one after the other: order kept, a repeat ignored
+-- rules 5.5 and 7.1: the uses of a list, one after the other
 unfoldable pub usesGiven : UseTables → ℕ → List ℕ → UseTables
 usesGiven t v codes = each (withUse v) t codes
 
@@ -101,7 +101,7 @@ withUses t u released = tempRecording (rows (t .records) (u .useCounts) (t .noUs
 abbrev pub freshTemp : GenContext → ℕ → VariableRecord
 freshTemp context occurrences = fresh (Temp context 0 Needed unset) occurrences
 
--- temp: register 0, sets empty, safety Needed; a 65th record is refused as 7
+-- rules 4.7 and 6.3: a temporary, unless the record is the 65th
 unfoldable pub tempRecorded : Counters → Rows → List ℕ → GenContext → ℕ → List ℕ → TempRecording
 tempRecorded c t useSets context occurrences codes =
     if leb variables (c .records) then tempRecording t useSets (refused c)
@@ -111,7 +111,7 @@ tempRecorded c t useSets context occurrences codes =
     (usesGiven (useTables useSets (rowsPut t (c .records) (freshTemp context occurrences) .useCounts)) (c .records) codes)
     (counted c)
 
--- ---- Populating
+-- ---- `sets`
 
 abbrev pub chunkOfAlloc : VarAlloc → ℕ
 chunkOfAlloc (Temp context register safety toPerm) = chunkNum context
@@ -131,7 +131,7 @@ pub record Restricting : Type 0 where
 abbrev pub restricting : List ℕ → List ℕ → Restricting
 restricting noUse conflict = record { noUse = noUse; conflict = conflict }
 
--- sets: the no-use and conflict sets of all temporaries
+-- rules 7.2 to 7.4: the no-use and conflict sets of all temporaries, and nothing else
 unfoldable pub populated : Counters → List ℕ → List ℕ → List ℕ → Restricting → Restricting
 populated c records useSets useCounts s =
     restricting

@@ -1,4 +1,4 @@
--- Laws of a clause's records: a temporary in its two steps, and what populating makes of each set, in document 01's words.
+-- Laws of a clause's records: a temporary in its two steps, and what `sets` makes of each set, as plain facts.
 use Prim.Native.Nat.{ℕ, _≤_, _<_}
 use mathlib.Core.Path.{_≡_, refl, ap, ap₂, sym, _∙_}
 use mathlib.Core.Bool.{true, false}
@@ -58,7 +58,7 @@ pub use-added :
     → useTables setsAfter countsAfter ≡ withUse v (useTables useSets useCounts) code
 use-added added = ap₂ useTables (added .sets) (added .counts)
 
--- ---- Populating
+-- ---- `sets`
 
 module _ (c : Counters) (records useSets useCounts : List ℕ) where
   pub sets-populated :
@@ -124,15 +124,14 @@ module _ (c : Counters) (records : List ℕ) where
     temporary-has v t = le-leb (chunkOf (chunksOf c records) v) lastChunk (omega (arith, chunk-here v (t .0), sized v t))
 
     module _ (useSets useCounts : List ℕ) (s : Restricting) (v r : ℕ) (t : Temporary v) (h : r ≤ registers) where
-      -- a temporary u ≠ v with (Last(v's chunk), r) in its use set, for which one of two things holds: u < v, or v does not
-      -- use r
+      -- u is another temporary, has a use of r in the last goal of v's chunk, and comes before v, or v has no use of r
       abbrev pub RestrictsAt : ℕ → Type 0
       RestrictsAt u =
           Temporary u × (u ≡ v → ⊥)
           × (useCode (lastContext (chunkIn v)) r ∈ usesOf useSets useCounts u)
           × ((u < v) ⊎ ((code : ℕ) → code ∈ usesOf useSets useCounts v → r ≡ registerOf code → ⊥))
 
-      -- r is in v's no-use set exactly if it was there, or there is such a u
+      -- rule 7.2: v's no-use set has r exactly if it had r before, or there is such a u
       pub no-use-of-records :
           (has (getD (populated c records useSets useCounts s .noUse) v 0) r ≡ true)
           ↔ ((has (getD (s .noUse) v 0) r ≡ true) ⊎ ((u : ℕ) × RestrictsAt u))
@@ -144,7 +143,7 @@ module _ (c : Counters) (records : List ℕ) where
             λ e. exactly .1 (⊎-map (λ was. was) (λ u. (u .0, (omega (arith, u .1 .0 .0, held)), (temporary-has (u .0) (u .1 .0), u .1 .1, rw here (u .1 .2), u .1 .3))) e),
           )
 
-      -- r is in v's conflict set exactly if it is 1 up to the use set's size, upper end excluded, and no use has it
+      -- rule 7.3: v's conflict set has r exactly if r is 1 or more, below the number of entries of its use set, and none has it
       pub conflict-of-records :
           (has (getD (populated c records useSets useCounts s .conflict) v 0) r ≡ true)
           ↔ ((1 ≤ r) × (r < length (usesOf useSets useCounts v)) × ((code : ℕ) → code ∈ usesOf useSets useCounts v → r ≡ registerOf code → ⊥))

@@ -1,4 +1,4 @@
--- The instructions of one event, in order.
+-- The instructions of one event, in the order in which they are made: rule 16.2.
 use mathlib.Core.List.{List, [], _∷_}
 use Rattle.instructions.specs.declared.Instruction.{Instruction}
 use Rattle.code_deque.specs.declared.CodeDeque.{CodeDeque}
@@ -11,7 +11,7 @@ codeList (One i) = i ∷ []
 codeList (Two i j) = i ∷ j ∷ []
 codeList (Three i j k) = i ∷ j ∷ k ∷ []
 
--- one instruction more
+-- one instruction more; a fourth, which no event makes, would be left out
 abbrev pub pushed : CodeDeque → Instruction → CodeDeque
 pushed Empty i = One i
 pushed (One h) i = Two h i

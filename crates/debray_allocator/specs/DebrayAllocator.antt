@@ -29,7 +29,7 @@ use Rattle.debray_allocator.specs.declared.Acted.{Acted}
 use Rattle.debray_allocator.specs.declared.Answer.{Answer}
 use Rattle.debray_allocator.specs.State.{stateOf}
 
--- ---- What a line comes to: the counters, the instructions, the place for `at`, the refusal
+-- ---- What a line makes: the counters, the instructions, the place for `at`, the refusal
 
 abbrev pub byRefusal : Counters → ℕ → Acted
 byRefusal c refusal = record { counters = c; code = Empty; at = Nowhere; refusal = refusal }
@@ -290,7 +290,7 @@ module _ (s : State) where
       (b .sets)
       (byRelease (b .released))
 
-  -- ---- A line that nothing refused before
+  -- ---- A line that nothing refused before, by its word: rules 5.6 to 5.27
 
   abbrev pub carriedOut : Event → List ℕ → Answer
   carriedOut (Temp context occurrences) list = withTempRecording (tempRecorded (s .counters) (rows (s .records) (s .«use_counts») (s .«no_use») (s .conflict)) (s .«use_sets») context occurrences list)
@@ -318,7 +318,7 @@ module _ (s : State) where
 
 -- ---- A line
 
--- after an event no record can follow
+-- rule 6.1: whether an event has been seen
 unfoldable pub seenAfter : Acted → Event → Acted
 seenAfter a event =
     if isRecord event then a
@@ -351,7 +351,7 @@ acted s event list =
     if ltb 0 (refusalBefore (s .counters) event list) then refusedWith s (refusalBefore (s .counters) event list)
     else seenIn (carriedOut s event list) event
 
--- a refusal leaves the state as it was
+-- rule 1.3: a refusal leaves the state as it was
 unfoldable pub unlessRefused : State → Answer → Answer
 unlessRefused s a = if ltb 0 (a .refusal) then refusedWith s (a .refusal) else a
 

@@ -10,7 +10,7 @@ use Rattle.debray_allocator.specs.declared.Acted.{Acted}
 use Rattle.debray_allocator.specs.declared.Answer.{Answer}
 use Rattle.debray_allocator.specs.DebrayAllocator.{byRefusal, answerOf, withCounters, carriedOut, seenAfter, actedOf, seenIn, refusedWith, acted, unlessRefused, stepped}
 
--- an event by its name, and what the call made for it comes to
+-- an event by its name, and what the call for it makes
 pub carried :
     {X : Type 0} (into : State → X → Answer) (s : State) (list records useSets useCounts noUse conflict mappings freedRegisters freedSlots branchRows branchSets : List ℕ)
     {event named : Event} {a b : Acted} {made meant : X}
@@ -37,7 +37,7 @@ module _ (s : State) (event : Event) (list : List ℕ) where
   unfolding acted
   acted-refused {refusal} e h refused = ap (withCounters s) refused ∙ refused-with refusal ∙ simp (← e, lt-ltb _ _ h)
 
-  -- an answer that is told again with what was seen
+  -- an answer, with what was seen
   abbrev pub toldWith : Answer → Acted → Answer
   toldWith b a =
       answerOf
@@ -64,7 +64,7 @@ module _ (s : State) (event : Event) (list : List ℕ) where
   acted-carried b e h made seen =
       ap (toldWith b) seen ∙ ap (λ b. seenIn b event) made ∙ simp (← e, le-ltb _ _ h)
 
-  -- a refused line leaves the state as it was; any other is told as it is
+  -- a refused line leaves the state as it was; any other is answered as it is
   pub stepped-refused :
       (b : Answer) → b ≡ acted s event list → 0 < b .refusal
       → withCounters s (byRefusal (s .counters) (b .refusal)) ≡ stepped s event list

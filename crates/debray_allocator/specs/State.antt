@@ -1,4 +1,4 @@
--- The state of a clause.
+-- What a clause keeps: rule 6.1.
 use Prim.Native.Nat.{ℕ, _+_, _*_}
 use mathlib.Core.List.{List}
 use lib.ListN.{replicate}
@@ -25,7 +25,7 @@ stateOf counters records useSets useCounts noUse conflict mappings freedRegister
       «branch_sets» = branchSets;
     }
 
--- a fresh clause: no record, nothing mapped, freed or open
+-- rule 6.2: a fresh clause
 abbrev pub freshState : State
 freshState =
     stateOf

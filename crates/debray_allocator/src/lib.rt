@@ -56,7 +56,7 @@ pub enum At {
     Place(RegType),
 }
 
-// What a line comes to, beside the tables.
+// The outcome of a line, beside the tables.
 pub struct Acted {
     pub counters: Counters,
     pub code: CodeDeque,
@@ -64,7 +64,7 @@ pub struct Acted {
     pub refusal: u32,
 }
 
-// What a line comes to: the state afterwards, the instructions and the place, or the refusal, 0 where there is none.
+// The outcome of a line: the state afterwards, the instructions and the place, or the refusal, 0 where there is none.
 pub struct Answer {
     pub state: State,
     pub code: CodeDeque,
@@ -139,7 +139,7 @@ fn marked(marked: Marked) -> Acted
     }
 }
 
-// Carries out a line that nothing refused before. How far the tables came is told also where it is refused now.
+// Carries out a line that nothing refused before. How far the tables came is seen also where it is refused now.
 fn carry_out(
     counters: Counters,
     records: &mut Records,

@@ -1,4 +1,4 @@
--- The choice of a register for a variable by its sets, and an argument's register emptied of another variable's value.
+-- The choice of a register for a variable by its sets, and the evacuation of a register.
 use Prim.Native.Nat.{ℕ, _%_}
 use mathlib.Core.Bool.{not}
 use mathlib.Core.List.{List}
@@ -29,11 +29,11 @@ use Rattle.evacuation.specs.declared.Reached.{Reached}
 abbrev pub setAt : List ℕ → ℕ → ℕ
 setAt sets v = getD sets (v % variables) 0
 
--- with no-use to be avoided
+-- rule 8.3: the no-use set is avoided
 abbrev pub allocWithCr : Counters → List ℕ → List ℕ → List ℕ → ℕ → Chosen
 allocWithCr c useSets useCounts noUse v = chosen c (usesOf useSets useCounts v) (setAt noUse v)
 
--- with no-use and conflict to be avoided
+-- rule 8.3, apart: the conflict set is avoided, too
 abbrev pub allocWithCa : Counters → List ℕ → List ℕ → List ℕ → List ℕ → ℕ → Chosen
 allocWithCa c useSets useCounts noUse conflict v =
     chosen c (usesOf useSets useCounts v) (union (setAt noUse v) (setAt conflict v))
@@ -55,8 +55,8 @@ abbrev pub hintTo : ℕ → Chosen → Hint
 hintTo v (Register r) = Moves v r
 hintTo v NoRegister = Nowhere
 
--- the variable mapped to the argument's register has to leave it if it is a temporary and (Last(chunk), k) is not in its
--- use set; it goes where alloc_with_ca says
+-- rules 9.1, 9.2: a temporary that is mapped to k and has no use of k in the chunk's last goal leaves it, for a register that
+-- is chosen apart
 unfoldable pub hint : Counters → List ℕ → List ℕ → Sets → ℕ → Hint
 hint c records mappings s chunk =
     let k = c .«arg_c» in
@@ -75,7 +75,7 @@ pub record Evacuation : Type 0 where
 abbrev pub evacuation : List ℕ → List ℕ → Reached → Evacuation
 evacuation records mappings reached = record { records = records; mappings = mappings; reached = reached }
 
--- the variable's value is moved: its mapping, its record, the in-use set, and one instruction
+-- rule 9.2: register and mapping move from k, the register is put in use, and one instruction is made
 unfoldable pub movedTo : Counters → List ℕ → List ℕ → CodeDeque → ℕ → ℕ → Evacuation
 movedTo c records mappings code v r =
     evacuation
@@ -87,14 +87,14 @@ movedTo c records mappings code v r =
       refusal = accepted;
     })
 
--- an event that goes on, and one for which no register up to 63 meets the search rule
+-- an event that goes on, and one for which no register is found: rule 4.5
 abbrev pub goingOn : Counters → CodeDeque → Reached
 goingOn c code = record { counters = c; code = code; refusal = accepted }
 
 abbrev pub noRegister : Counters → CodeDeque → Reached
 noRegister c code = record { counters = c; code = code; refusal = refusedRegister }
 
--- an evacuation that chooses k itself changes and prints nothing
+-- rule 9.2: where k itself is chosen, nothing changes
 unfoldable pub evacuatedBy : Hint → Counters → List ℕ → List ℕ → CodeDeque → Evacuation
 evacuatedBy Stays c records mappings code = evacuation records mappings (goingOn c code)
 evacuatedBy Nowhere c records mappings code = evacuation records mappings (noRegister c code)

@@ -32,7 +32,7 @@ fn set_at(sets: &RegisterSets, v: u32) -> BitSet
     sets[(v % VARIABLES as u32) as usize]
 }
 
-// The register for a variable that need not heed its conflict set.
+// The register for a variable that may take one of its conflict set.
 pub fn alloc_with_cr(
     counters: Counters,
     use_sets: &UseSets,
@@ -46,7 +46,7 @@ pub fn alloc_with_cr(
     choice::choose(counters, use_set, set_at(no_use, v))
 }
 
-// The register for a variable that heeds its conflict set too.
+// The register for a variable that avoids its conflict set too.
 pub fn alloc_with_ca(
     counters: Counters,
     use_sets: &UseSets,

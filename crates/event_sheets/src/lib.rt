@@ -44,7 +44,7 @@ const SHORT_SHEET: usize = 2_048;
 
 const SHORT_TEXT: usize = 8_192;
 
-// A run over the lines of a sheet: where it was refused and why, and the length of its text, which is told also where the
+// A run over the lines of a sheet: where it was refused and why, and the length of its text, which counts also where the
 // room has ended.
 pub struct Run {
     pub line: usize,

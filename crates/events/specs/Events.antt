@@ -18,13 +18,13 @@ use Rattle.events.specs.declared.Entries.the-variants.{Uses, Arguments, 
 use Rattle.events.specs.declared.Event.{Event}
 use Rattle.events.specs.declared.Event.the-variants.{Temp, Perm, Sets, Head, Args, Var, Anon, NonVar, Cut, Incr, Free, Safe, Give, Tail, Next, Open, Arm, Take, Close, Reset, Contents, ClearFree}
 
--- ---- Sizes: refusal 3
+-- ---- Sizes: rule 4.3
 
--- a context: the head's, or one of a chunk that there is
+-- a context: the head's, or one of a chunk that there is, rule 3.6
 unfoldable pub isContext : ℕ → Bool
 isContext n = eqb n headContext || leb (midContext 0) n && leb n (lastContext chunks)
 
--- a use of a register that there is
+-- a use of a register that there is, rule 3.4
 unfoldable pub isUse : ℕ → Bool
 isUse code = isRegister (registerOf code) && isContext (contextOf code)
 
@@ -45,7 +45,7 @@ allFit entries records (n ∷ ns) = entryFits entries records n && allFit entrie
 abbrev pub contextFits : GenContext → Bool
 contextFits context = isChunk (chunkNum context)
 
--- every number of a line is inside its size or names one of so many variables
+-- rules 3.4 to 3.7, 3.12 and 3.13: every number of a line is inside its size or names one of so many variables
 abbrev pub inSize : ℕ → Event → List ℕ → Bool
 inSize records (Temp context occurrences) list = contextFits context && (isCount occurrences && allFit Uses records list)
 inSize records (Perm occurrences) list = isCount occurrences
@@ -70,9 +70,9 @@ inSize records Reset list = true
 inSize records Contents list = true
 inSize records ClearFree list = true
 
--- ---- What is full: refusal 7
+-- ---- What is full: rule 4.7
 
--- at `r` and `s` a variable is an argument, and any other term only at `s`
+-- levels, rule 5.4: at `r` and `s` a variable is an argument, any other term only at `s`
 abbrev pub takesArgument : Level → Bool
 takesArgument Root = true
 takesArgument Shallow = true
@@ -83,7 +83,7 @@ isShallow Root = false
 isShallow Shallow = true
 isShallow Deep = false
 
--- a list of so many entries is too long, the record is one too many, or the argument counter stands at 64
+-- a list of so many entries is too long, rule 3.14, the record is the 65th, or the argument counter stands at 64
 abbrev pub isFull : Counters → Event → ℕ → Bool
 isFull c (Temp context occurrences) entries = ltb uses entries || leb variables (c .records)
 isFull c (Perm occurrences) entries = leb variables (c .records)
@@ -108,7 +108,7 @@ isFull c Reset entries = false
 isFull c Contents entries = false
 isFull c ClearFree entries = false
 
--- ---- 1, 2, 3, then 7
+-- ---- In which order they refuse: rules 4.12 and 4.13
 
 abbrev pub isRecord : Event → Bool
 isRecord (Temp context occurrences) = true
@@ -138,7 +138,7 @@ unfoldable pub refusalBySize : Counters → Event → List ℕ → ℕ
 refusalBySize c event list =
     if inSize (c .records) event list then if isFull c event (length list) then refusedFull else accepted else refusedSize
 
--- a record after an event is out of order
+-- rules 5.1 and 5.2: records stand first; one behind an event is refused for that, whatever else is wrong
 unfoldable pub refusalBefore : Counters → Event → List ℕ → ℕ
 refusalBefore c event list =
     if isRecord event && ltb 0 (c .«events_seen») then refusedOrder else refusalBySize c event list

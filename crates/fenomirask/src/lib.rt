@@ -14,7 +14,7 @@ ghost use Rattle.fenomirask.specs.Numbers.{Fits};
 use answered::Answered;
 use debray_allocator::State;
 
-// The state after a call, and what the host is told.
+// The state after a call, and the number for the host.
 pub struct Stepped {
     pub state: State,
     pub number: i64,

@@ -23,7 +23,7 @@ parts-left mark (c ∷ cs) =
     ∷ fieldsLeft mark (drop (length (if t then [] else c ∷ before mark cs)) (c ∷ cs)))
     [ true ↦ refl | false ↦ rw (parts-left mark cs) ]
 
--- so the fields of a line are its word and those that are left behind it
+-- rule 2.2: the fields of a line are its word and those that are left behind it
 pub line-fields : (line : List ℕ) → split tab line ≡ before tab line ∷ fieldsLeft tab (drop (length (before tab line)) line)
 line-fields line = parts-left tab line
 

@@ -1,4 +1,4 @@
--- A variable that is no longer needed.
+-- A variable is counted or freed.
 use Prim.Native.Nat.{ℕ, _+_}
 use mathlib.Core.List.{List}
 use lib.Dec.{leb, ltb}
@@ -27,7 +27,7 @@ release list released = record { list = list; released = released }
 abbrev pub kept : Counters → Released
 kept c = record { counters = c; refusal = accepted }
 
--- a variable joins the freed-slot queue, unless that is full: refusal 7
+-- an entry joins the queue of freed slots, unless that is full: rule 4.7
 unfoldable pub pushedFree : Counters → List ℕ → ℕ → ℕ → Release
 pushedFree c list chunk v =
     if leb freedSlots (c .«freed_slots») then release list (record { counters = c; refusal = refusedFull })
@@ -48,7 +48,7 @@ releaseOf records list released = record { records = records; list = list; relea
 abbrev pub withRecords : List ℕ → Release → ReleaseOf
 withRecords records r = releaseOf records (r .list) (r .released)
 
--- a permanent variable becomes Pending and joins the queue; a temporary is left alone
+-- rule 10.5: a permanent variable becomes Pending and joins the queue; a temporary is left alone
 abbrev pub freedAs : VarAlloc → Counters → List ℕ → List ℕ → ℕ → ℕ → ReleaseOf
 freedAs (Temp context register safety toPerm) c records list chunk v = releaseOf records list (kept c)
 freedAs (Perm slot allocation) c records list chunk v =
@@ -65,7 +65,7 @@ runningAt variable n =
       «running_count» = n;
     }
 
--- A var mark adds to running_count while below num_occurrences; otherwise it frees the variable.
+-- rule 12.10: a running count that is below the occurrences grows by one; otherwise the variable is freed
 unfoldable pub countedOrFreed : Counters → List ℕ → List ℕ → ℕ → ℕ → ReleaseOf
 countedOrFreed c records list chunk v =
     if ltb (recordAt records v .«running_count») (recordAt records v .«num_occurrences») then

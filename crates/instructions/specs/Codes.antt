@@ -49,6 +49,6 @@ words =
 unfoldable pub wordOf : ℕ → List ℕ
 wordOf number = getD words number []
 
--- the word, the place and, with a number up to 4, the argument
+-- rule 16.3: the word, the place and, with a number up to 4, the argument
 unfoldable pub fieldsOf : Code → List (List ℕ)
 fieldsOf c = wordOf (c .number) ∷ registerText (c .place) ∷ (if leb (c .number) 4 then decimal (c .argument) ∷ [] else [])

@@ -1,4 +1,4 @@
--- The line that each instruction is printed as: fields parted by one tab, and LF at the end.
+-- The lines that marks print, built as rule 2.5 says: one tab between fields, and LF at the end.
 use Prim.Native.Nat.{ℕ}
 use mathlib.Core.List.{List, [], _∷_, _++_}
 use Rattle.notation.specs.Text.{bytes}
@@ -13,7 +13,7 @@ use Rattle.instructions.specs.declared.Instruction.the-variants.{GetVari
 unfoldable pub line : List (List ℕ) → List ℕ
 line fields = joined tab fields ++ lineFeed ∷ []
 
--- the word, the place and, for those that have one, the argument k
+-- rule 16.3: the word, the place and, for those that have one, the argument k
 unfoldable pub instructionText : Instruction → List ℕ
 instructionText (GetVariable place k) = line (bytes "get_variable" ∷ registerText place ∷ decimal k ∷ [])
 instructionText (GetValue place k) = line (bytes "get_value" ∷ registerText place ∷ decimal k ∷ [])
@@ -27,6 +27,6 @@ instructionText (UnifyVariable place) = line (bytes "unify_variable" ∷ registe
 instructionText (UnifyValue place) = line (bytes "unify_value" ∷ registerText place ∷ [])
 instructionText (UnifyLocalValue place) = line (bytes "unify_local_value" ∷ registerText place ∷ [])
 
--- `at` and a place: the line that follows the instructions of an event
+-- rule 16.2: `at` and the place, behind the instructions of an event
 unfoldable pub atText : RegType → List ℕ
 atText place = line (bytes "at" ∷ registerText place ∷ [])

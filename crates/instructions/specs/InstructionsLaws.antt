@@ -75,7 +75,7 @@ pub line-without-argument :
 unfolding fieldsOf line joined
 line-without-argument c h = simp (lt-leb _ _ h)
 
--- ---- Lines of document 01, sheet 1
+-- ---- Two lines of the answer in rule 24.1
 
 pub sheet-1 : instructionText (GetVariable (Perm 1) 2) ++ atText (Perm 1) ≡ bytes "get_variable\ty1\t2\nat\ty1\n"
 unfolding instructionText atText line joined registerText decimal written

@@ -1,4 +1,4 @@
--- Two promises about every event: a record stays of its kind, and places stay in their sizes.
+-- Two facts about every event: a record stays of its kind, and places stay in their sizes.
 use Prim.Native.Nat.{ℕ, _+_, _*_, _%_, _≤_, _<_}
 use mathlib.Core.Path.{_≡_, refl, ap, _∙_}
 use mathlib.Core.List.{List}
@@ -23,7 +23,7 @@ use Rattle.invariants.specs.Every.{Every, every-at, every-map, record-mo
 use Rattle.invariants.specs.Kept.{Wanted, Kept, holds-so, holds-kind, holds-place, kept-at}
 use Rattle.invariants.specs.OfSteps.{FitsIn, stepped-fits}
 
--- ---- Record kinds never change
+-- ---- Kinds stay: rule 6.5
 
 -- of the records that there are, the kind that they have
 abbrev kindsOf : State → Wanted
@@ -74,7 +74,7 @@ pub full-stays :
     → length (stepped s event list .state .records) ≡ variables * rowCells
 full-stays s full event list = kinds-after s full event list .full
 
--- ---- Places stay in their sizes
+-- ---- Places stay in their sizes: rule 3.4
 
 -- a register or slot is at most 63; 0 is none
 abbrev pub Fitting : ℕ → Type 0

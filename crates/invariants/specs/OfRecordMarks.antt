@@ -34,7 +34,7 @@ module _ (k : Wanted) (w : ℕ) where
   HoldsValue Halted = Unit {0}
 
   module _ (variable : VariableRecord) where
-    -- ---- Met before
+    -- ---- Not new
 
     argument-of-holds :
         (allocation : VarAlloc) → Holds k w allocation → Holds k w (variable .allocation)
@@ -57,7 +57,7 @@ module _ (k : Wanted) (w : ℕ) where
     subterm-of-holds (Perm slot (Done shallow deep)) h was target place branch =
         either HoldsValue (safetyUnneeded deep branch) was h
 
-    -- ---- Met for the first time
+    -- ---- New
 
     module _ (slot : ℕ) (permanent : Holds k w (Perm slot Pending)) (branch : Branch) where
       safe-in-holds : Holds k w (safeIn variable slot branch .allocation)

@@ -1,4 +1,4 @@
--- A variable is marked.
+-- A variable is marked: rules 12.1 to 12.12.
 use Prim.Native.Nat.{ℕ}
 use mathlib.Core.Bool.{Bool, true, false}
 use mathlib.Core.List.{List}
@@ -35,7 +35,7 @@ use Rattle.marks.specs.declared.Marked.{Marked}
 use Rattle.marks.specs.Marks.{RegisterPlacement, registerPlaced}
 use Rattle.mark_var.specs.declared.Mark.{Mark}
 
--- ---- What follows the instruction
+-- ---- What follows the instruction: rule 12.10
 
 pub record Noted : Type 0 where
   pub mappings : List ℕ
@@ -47,7 +47,7 @@ abbrev pub notedPlace : List ℕ → List ℕ → List ℕ → ℕ → Noted
 notedPlace mappings rows branchSets refusal =
     record { mappings = mappings; rows = rows; branchSets = branchSets; refusal = refusal }
 
--- a new permanent variable is recorded in its branch
+-- of a permanent variable that is new an occurrence is recorded
 unfoldable pub notedSlot : List ℕ → List ℕ → List ℕ → ℕ → ℕ → Bool → Noted
 notedSlot mappings rows branchSets opened v isNew =
     if isNew then
@@ -108,7 +108,7 @@ unfoldable pub finished :
 finished c records mappings list rows branchSets v context place isNew code =
     finishedAfter (noted mappings rows branchSets (c .«open_branches») v place isNew) c records list v context place code
 
--- ---- The instruction
+-- ---- The instruction: of a subterm by rule 12.7, of an argument by rule 12.3
 
 abbrev pub subtermIn : Step → List ℕ → Evacuation
 subtermIn s mappings = evacuation (s .records) mappings (s .reached)
@@ -161,7 +161,7 @@ reservedMarked c records mappings s list rows branchSets mark place isNew code =
 
 -- ---- A variable
 
--- the tables that a mark may change, and how far it has come, with the variable's place
+-- the tables that a mark may change, how far it has come, and the place, which `at` shows: rule 12.11
 pub record VarMark : Type 0 where
   pub records : List ℕ
   pub mappings : List ℕ
@@ -186,7 +186,7 @@ markedAt c records mappings s list rows branchSets mark place isNew code =
 abbrev pub placeless : Reached → Marked
 placeless reached = record { reached = reached; place = TempRegister 0 }
 
--- a temporary that has no register yet gets one
+-- rule 12.1: a temporary that has no register is new and gets one
 unfoldable pub newTemporaryAfter : RegisterPlacement → Sets → List ℕ → List ℕ → List ℕ → Mark → VarMark
 newTemporaryAfter p s list rows branchSets mark =
     if ltb 0 (p .placed .reached .refusal) then
@@ -215,7 +215,7 @@ newTemporaryMarked c records mappings s list rows branchSets mark =
     branchSets
     mark
 
--- a permanent variable that has no slot gets one
+-- rule 12.2: a permanent variable that has no slot is new and gets one
 unfoldable pub newSlotAfter : Placement → List ℕ → Sets → List ℕ → List ℕ → List ℕ → Mark → VarMark
 newSlotAfter p mappings s list rows branchSets mark =
     if ltb 0 (p .placed .refusal) then
@@ -227,7 +227,7 @@ unfoldable pub newSlotMarked : Counters → List ℕ → List ℕ → Sets → L
 newSlotMarked c records mappings s list rows branchSets mark =
     newSlotAfter (permPlaced c records list (mark .variable) (chunkNum (mark .context))) mappings s list rows branchSets mark
 
--- a Pending one that has a slot is new, and keeps it
+-- rule 12.2: one that has a slot keeps it, and is new while it is Pending
 abbrev pub slotMarked : Counters → List ℕ → List ℕ → Sets → List ℕ → List ℕ → List ℕ → Mark → ℕ → PermVarAllocation → VarMark
 slotMarked c records mappings s list rows branchSets mark slot Pending =
     markedAt c (slotGiven records (mark .variable) slot) mappings s list rows branchSets mark (PermSlot slot) true Empty

@@ -1,4 +1,4 @@
--- A mark, step by step: what was not refused goes on.
+-- A mark, step by step: what was not refused goes on, and so refusals come in the order of rule 12.12.
 use Prim.Native.Nat.{ℕ, _≤_}
 use mathlib.Core.Path.{_≡_, ap, sym, _∙_}
 use mathlib.Core.Bool.{Bool, true}
@@ -52,7 +52,7 @@ module _ (list rows branchSets : List ℕ) (mark : Mark) (place : RegType) (isNe
   reserved-finished {e} h unrefused made =
       made ∙ sym (at-once e unrefused) ∙ ap (λ e. reservedAfter e list rows branchSets mark place isNew) h
 
--- a mark is told with its place
+-- a mark with its place
 pub marked-with-place :
     {m reserved : Marking} (place : RegType) → m ≡ reserved → withPlace m place ≡ withPlace reserved place
 marked-with-place place h = ap (λ m. withPlace m place) h

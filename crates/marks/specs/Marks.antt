@@ -1,4 +1,4 @@
--- A register for a new temporary.
+-- A register for a new temporary: rule 12.1.
 use Prim.Native.Nat.{ℕ}
 use mathlib.Core.List.{List}
 use lib.Dec.{ltb}
@@ -15,7 +15,7 @@ use Rattle.evacuation.specs.declared.Reached.{Reached}
 use Rattle.evacuation.specs.Evacuation.{Sets, Evacuation, allocWithCr, allocWithCa, goingOn, noRegister, evacuated}
 use Rattle.marks.specs.declared.RegPlaced.{RegPlaced}
 
--- ---- A register for a new temporary
+-- ---- What was chosen, and where
 
 abbrev pub chosenOrRefused : Reached → Chosen → RegPlaced
 chosenOrRefused reached (Register r) = record { reached = reached; place = r }
@@ -30,12 +30,12 @@ pub record RegisterPlacement : Type 0 where
 abbrev pub registerPlacement : List ℕ → List ℕ → RegPlaced → RegisterPlacement
 registerPlacement records mappings placed = record { records = records; mappings = mappings; placed = placed }
 
--- with alloc_with_ca
+-- chosen apart
 unfoldable pub allocApart : Counters → Sets → ℕ → CodeDeque → RegPlaced
 allocApart c s v code =
     chosenOrRefused (goingOn c code) (allocWithCa c (s .useSets) (s .useCounts) (s .noUse) (s .conflict) v)
 
--- with alloc_with_cr, after an evacuation
+-- chosen after an evacuation
 unfoldable pub afterEvacuation : Evacuation → Sets → ℕ → RegisterPlacement
 afterEvacuation e s v =
     if ltb 0 (e .reached .refusal) then registerPlacement (e .records) (e .mappings) (record { reached = e .reached; place = 0 })
@@ -46,7 +46,7 @@ afterEvacuation e s v =
 unfoldable pub allocShallow : Counters → List ℕ → List ℕ → Sets → ℕ → ℕ → CodeDeque → RegisterPlacement
 allocShallow c records mappings s v chunk code = afterEvacuation (evacuated c records mappings s chunk code) s v
 
--- a shallow argument in the head or in a chunk's last goal is evacuated first; all others are chosen apart
+-- rule 12.1: at level `s`, in the head or in a last goal, k is evacuated first; otherwise the register is chosen apart
 abbrev pub registerPlaced : Counters → List ℕ → List ℕ → Sets → ℕ → Level → GenContext → CodeDeque → RegisterPlacement
 registerPlaced c records mappings s v Root context code = registerPlacement records mappings (allocApart c s v code)
 registerPlaced c records mappings s v Deep context code = registerPlacement records mappings (allocApart c s v code)

@@ -1,4 +1,4 @@
--- What is printed reads back, and what reads was printed so: no number has two spellings.
+-- What is printed reads back, and what reads was printed so, rules 2.3 and 2.5: no number has two spellings.
 use Prim.Native.Nat.{ℕ, zero, suc, _+_, _-_, _*_, _/_, _%_, _^_, _≤_, _<_}
 use mathlib.Core.Path.{_≡_, refl, ap, sym, _∙_}
 use mathlib.Core.List.{List, [], _∷_, _++_, append-assoc, append-nil}

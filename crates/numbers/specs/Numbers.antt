@@ -1,4 +1,4 @@
--- Numbers are decimal, at most 4,294,967,295, with no needless leading zero.
+-- Numbers, as a field has them and as they are printed.
 use Prim.Native.Nat.{ℕ, zero, suc, _+_, _-_, _*_, _/_, _%_}
 use mathlib.Core.List.{List, [], _∷_, _++_}
 use mathlib.Core.Bool.{Bool, true, false, not, _&&_}
@@ -10,7 +10,7 @@ use Rattle.sizes.specs.Sizes.{largestNumber}
 use Rattle.numbers.specs.declared.Number.{Number}
 use Rattle.numbers.specs.declared.Number.the-variants.{Of, Malformed}
 
--- ---- What a field says
+-- ---- What a field says: rule 2.3
 
 unfoldable pub isDigit : ℕ → Bool
 isDigit c = leb (byte "0") c && leb c (byte "9")
@@ -36,7 +36,7 @@ isNumber s = ltb 0 (length s) && allDigits s && leb (valueFrom 0 s) largestNumbe
 unfoldable pub numberOf : List ℕ → Number
 numberOf s = if isNumber s then Of (valueFrom 0 s) else Malformed
 
--- ---- How a number is printed
+-- ---- How a number is printed: rule 2.5
 
 abbrev pub digit : ℕ → ℕ
 digit d = byte "0" + d

@@ -46,7 +46,7 @@ refusedMark c refusal = refusedAt (record { counters = c; code = Empty; refusal 
 abbrev pub quietMark : Counters → RegType → Marked
 quietMark c place = record { reached = goingOn c Empty; place = place }
 
--- `anon` and `nonvar` evacuate only in `l`
+-- rules 13.1 and 13.3: k is evacuated only where the context is `l`N
 abbrev pub emptiedIn : GenContext → Counters → List ℕ → List ℕ → Sets → Evacuation
 emptiedIn Head c records mappings s = evacuation records mappings (goingOn c Empty)
 emptiedIn (Mid chunk) c records mappings s = evacuation records mappings (goingOn c Empty)
@@ -76,7 +76,7 @@ pub record MarkOf : Type 0 where
 abbrev pub markOf : List ℕ → List ℕ → Marked → MarkOf
 markOf records mappings marked = record { records = records; mappings = mappings; marked = marked }
 
--- ---- An anonymous variable
+-- ---- An anonymous variable: rule 13.1
 
 abbrev pub anonAfter : Evacuation → Instruction → RegType → MarkOf
 anonAfter e instruction place = markOf (e .records) (e .mappings) (instructedAt (e .reached) instruction place)
@@ -102,12 +102,12 @@ anonChosen NoRegister c records mappings s target level context = markOf records
 anonChosen (Register r) c records mappings s target level context =
     anonPlaced c records mappings s target level context (TempRegister r)
 
--- its own register, then the evacuation
+-- rule 13.2: its own register comes before the evacuation
 unfoldable pub anonMarked : Counters → List ℕ → List ℕ → Sets → List ℕ → Target → Level → GenContext → MarkOf
 anonMarked c records mappings s list target level context =
     anonChosen (nonVar c list .chosen) (nonVar c list .counters) records mappings s target level context
 
--- ---- A term that is no variable
+-- ---- A term that is no variable: rules 13.3 and 13.4
 
 abbrev pub termChosen : Chosen → Counters → Marked
 termChosen NoRegister c = refusedMark c refusedRegister
@@ -116,7 +116,7 @@ termChosen (Register r) c = quietMark c (TempRegister r)
 unfoldable pub termMarked : Counters → List ℕ → Marked
 termMarked c list = termChosen (nonVar c list .chosen) (nonVar c list .counters)
 
--- cell 0 is none; any other is put in use
+-- rule 13.4: a cell above 0 is the register; for cell 0 one is found
 unfoldable pub cellMarked : Counters → List ℕ → ℕ → Marked
 cellMarked c list cell =
     if eqb cell 0 then termMarked c list
@@ -129,13 +129,13 @@ unfoldable pub nonVarArgument : Counters → List ℕ → List ℕ → Sets → 
 nonVarArgument c records mappings s context =
     nonVarAfter (turnTaken c records mappings s context) (TempRegister (c .«arg_c»))
 
--- `nonvar r` behaves as `d`
+-- only at `s` it is an argument, and then the cell is not read
 unfoldable pub nonVarMarked : Counters → List ℕ → List ℕ → Sets → List ℕ → Level → GenContext → ℕ → MarkOf
 nonVarMarked c records mappings s list Root context cell = markOf records mappings (cellMarked c list cell)
 nonVarMarked c records mappings s list Deep context cell = markOf records mappings (cellMarked c list cell)
 nonVarMarked c records mappings s list Shallow context cell = nonVarArgument c records mappings s context
 
--- ---- The variable of a cut
+-- ---- The variable of a cut: rules 13.5 and 13.6
 
 -- the records, and the mark
 pub record CutOf : Type 0 where
@@ -145,7 +145,7 @@ pub record CutOf : Type 0 where
 abbrev pub cutOf : List ℕ → Marked → CutOf
 cutOf records marked = record { records = records; marked = marked }
 
--- no occurrence is recorded, and the in-use set is left alone
+-- no occurrence is recorded, and the slot's number is not put in use
 unfoldable pub slotCutBy : Placement → CutOf
 slotCutBy p =
     if ltb 0 (p .placed .refusal) then cutOf (p .records) (refusedMark (p .placed .counters) (p .placed .refusal))
@@ -154,7 +154,7 @@ slotCutBy p =
 unfoldable pub slotCut : Counters → List ℕ → List ℕ → ℕ → ℕ → CutOf
 slotCut c records permList v chunk = slotCutBy (permPlaced c records permList v chunk)
 
--- no mapping is made
+-- the register is not mapped to it
 abbrev pub registerCutBy : Chosen → Counters → List ℕ → ℕ → VariableRecord → GenContext → ℕ → CutOf
 registerCutBy NoRegister c records v variable context toPerm = cutOf records (refusedMark c refusedRegister)
 registerCutBy (Register r) c records v variable context toPerm =
@@ -166,7 +166,7 @@ unfoldable pub registerCut : Counters → List ℕ → List ℕ → ℕ → Vari
 registerCut c records list v variable context toPerm =
     registerCutBy (nonVar c list .chosen) (nonVar c list .counters) records v variable context toPerm
 
--- a slot or register 0 is none; a variable that has a place keeps it, also while Pending
+-- rule 13.5: a place that v has stays, also while v is Pending; 0 is none
 unfoldable pub cutAs : VarAlloc → Counters → List ℕ → List ℕ → List ℕ → ℕ → ℕ → CutOf
 cutAs (Perm slot allocation) c records permList list v chunk =
     if eqb slot 0 then slotCut c records permList v chunk else cutOf records (quietMark c (PermSlot slot))

@@ -1,4 +1,4 @@
--- The freed-slot queue gives only its front, and only to a strictly later chunk.
+-- The queue of freed slots: rules 10.1 and 10.2.
 use Prim.Native.Nat.{ℕ, zero, suc, _+_, _*_, _%_}
 use mathlib.Core.List.{List, [], _∷_}
 use lib.Dec.{leb, ltb}
@@ -23,7 +23,7 @@ entryAt list first i =
 abbrev pub entryPut : List ℕ → ℕ → ℕ → FreedSlot → List ℕ
 entryPut list first i entry = set (set list (entryStart first i) (entry .chunk)) (entryStart first i + 1) (entry .variable)
 
--- A slot is taken if above 0 and Pending: the slot of such a variable, else 0.
+-- the slot of a variable that is Pending; 0, which is none, of any other
 abbrev pub pendingSlot : VarAlloc → ℕ
 pendingSlot (Temp context register safety toPerm) = 0
 pendingSlot (Perm slot (Done shallow deep)) = 0
@@ -41,7 +41,7 @@ entries list first i (suc count) = entryAt list first i ∷ entries list first (
 abbrev pub none : ℕ → Looked
 none dropped = record { dropped = dropped; slot = 0; owner = 0 }
 
--- Only the front is given, and only to a strictly later chunk; entries that hold no free slot are dropped on the way.
+-- rules 10.1, 10.2: a front entry of this chunk or a later one ends it; an earlier one gives its slot, or is dropped
 unfoldable pub looked : List ℕ → ℕ → ℕ → List FreedSlot → Looked
 looked records chunk dropped [] = none dropped
 looked records chunk dropped (entry ∷ rest) =

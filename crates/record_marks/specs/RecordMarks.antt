@@ -25,11 +25,11 @@ use Rattle.record_marks.specs.declared.Valued.the-variants.{Value, Stopp
 use Rattle.record_marks.specs.declared.MarkedSafe.{MarkedSafe}
 use Rattle.record_marks.specs.declared.MarkedSafe.the-variants.{Safe, FromTemporary, Stopped as NotSafe}
 
--- an argument needs no guard outside the tail position, nor where its safety says so
+-- an argument is not guarded outside the tail position, nor where its safety is unneeded
 unfoldable pub argumentSafe : ℕ → VarSafetyStatus → Branch → Bool
 argumentSafe tail safety branch = eqb tail 0 || safetyUnneeded safety branch
 
--- an argument whose variable has been met before: guarded once, and from then on not in this branch
+-- rule 12.6: an argument that is not new; guarded once, and from then on not in this branch
 unfoldable pub argumentValueOf : VarAlloc → VariableRecord → Target → RegType → ℕ → ℕ → Branch → Valued
 argumentValueOf (Temp context register safety toPerm) variable target place k tail branch =
     Value variable (argumentToValue target place k)
@@ -41,7 +41,7 @@ argumentValueOf (Perm slot (Done shallow deep)) variable target place k tail bra
 abbrev pub argumentValue : VariableRecord → Target → RegType → ℕ → ℕ → Branch → Valued
 argumentValue variable = argumentValueOf (variable .allocation) variable
 
--- a subterm whose variable has been met before: likewise, in any position
+-- rule 12.8: a subterm that counts as met; likewise, in any position
 unfoldable pub subtermValueOf : VarAlloc → VariableRecord → Target → RegType → Branch → Valued
 subtermValueOf (Temp context register safety toPerm) variable target place branch =
     if safetyUnneeded safety branch then Value variable (subtermToValue target place)
@@ -54,13 +54,13 @@ subtermValueOf (Perm slot (Done shallow deep)) variable target place branch =
 abbrev pub subtermValue : VariableRecord → Target → RegType → Branch → Valued
 subtermValue variable = subtermValueOf (variable .allocation) variable
 
--- ---- Met for the first time
+-- ---- New: rules 12.5 and 12.9
 
 unfoldable pub safeIn : VariableRecord → ℕ → Branch → VariableRecord
 safeIn variable slot branch = allocated variable (Perm slot (Done (unneededIn branch) (unneededIn branch)))
 
--- In the head a shallow get_variable makes only shallow safety globally unneeded; outside it, the value comes from the
--- temporary in the argument's register.
+-- rule 12.5: in the head only the shallow safety becomes unneeded everywhere; outside the head the temporary that is
+-- mapped to k is to note the move
 abbrev pub safeArgument : VariableRecord → ℕ → VarSafetyStatus → GenContext → MarkedSafe
 safeArgument variable slot deep Head = Safe (allocated variable (Perm slot (Done GloballyUnneeded deep)))
 safeArgument variable slot deep (Mid chunk) = FromTemporary
@@ -80,7 +80,7 @@ markedSafeOf (Perm slot (Done shallow deep)) variable level context branch = saf
 abbrev pub markedSafe : VariableRecord → Level → GenContext → Branch → MarkedSafe
 markedSafe variable = markedSafeOf (variable .allocation) variable
 
--- ---- Said to be safe
+-- ---- Said to be safe: rule 14.4
 
 abbrev pub unconditionallyOf : VarAlloc → VariableRecord → Branch → MarkedSafe
 unconditionallyOf (Temp context register safety toPerm) variable branch =
@@ -91,20 +91,20 @@ unconditionallyOf (Perm slot (Done shallow deep)) variable branch = Safe (safeIn
 abbrev pub markedUnconditionally : VariableRecord → Branch → MarkedSafe
 markedUnconditionally variable = unconditionallyOf (variable .allocation) variable
 
--- ---- In place
+-- ---- In place: rule 12.4
 
 abbrev pub storedInPlace : VarAlloc → ℕ → ℕ → Bool
 storedInPlace (Temp context register safety toPerm) r k = eqb r k && eqb register k
 storedInPlace (Perm slot allocation) r k = false
 
--- in the head a register is in place if it is the argument's; otherwise the stored register has to be
+-- in the head it is enough that its place is k; otherwise k has to be the register in its record, too
 abbrev pub inPlace : VariableRecord → GenContext → RegType → ℕ → Bool
 inPlace variable context (PermSlot r) k = storedInPlace (variable .allocation) r k
 inPlace variable Head (TempRegister r) k = eqb r k
 inPlace variable (Mid chunk) (TempRegister r) k = storedInPlace (variable .allocation) r k
 inPlace variable (Last chunk) (TempRegister r) k = storedInPlace (variable .allocation) r k
 
--- ---- A temporary remembers the permanent variable that it is moved to
+-- ---- A temporary notes the permanent variable that it was moved to: rule 12.5
 
 abbrev pub rememberedOf : VarAlloc → VariableRecord → ℕ → MarkedSafe
 rememberedOf (Temp context register safety toPerm) variable v = Safe (allocated variable (Temp context register safety v))

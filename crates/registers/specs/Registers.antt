@@ -1,4 +1,4 @@
--- A register is printed as x3, a slot as y1.
+-- A place as it is printed, rule 2.5: `x` or `y` and its number.
 use Prim.Native.Nat.{ℕ}
 use mathlib.Core.List.{List, _∷_}
 use Rattle.notation.specs.Text.{byte}

@@ -35,9 +35,9 @@ use Rattle.record_marks.specs.declared.Valued.{Valued}
 use Rattle.record_marks.specs.declared.Valued.the-variants.{Value, Stopped as Halted}
 use Rattle.record_marks.specs.RecordMarks.{markedSafe, rememberedPerm, inPlace, argumentValue, subtermValue}
 
--- ---- Met for the first time
+-- ---- New: rules 12.5 and 12.9
 
--- the records, and the refusal, 0 while there is none; 8 where any other unreachable arm is met
+-- the records, and the refusal, 0 while there is none; 8 by rule 4.8
 pub record SafeStep : Type 0 where
   pub records : List ℕ
   pub refusal : ℕ
@@ -50,7 +50,7 @@ safeKept records v (Safe variable) = safeStep (recordPut records v variable) acc
 safeKept records v FromTemporary = safeStep records accepted
 safeKept records v Stopped = safeStep records refusedUnreachable
 
--- the temporary in the argument's register remembers the permanent variable that it is moved to
+-- rule 12.5: the temporary that is mapped to k notes that it was moved to v
 unfoldable pub remembered : List ℕ → List ℕ → ℕ → ℕ → SafeStep
 remembered records mappings k v =
     if leb variables (mappedAt mappings k) then safeStep records accepted
@@ -90,7 +90,7 @@ valueKept c records v Halted code = step records (stopped c code refusedUnreacha
 abbrev pub safeInstructed : SafeStep → Counters → CodeDeque → Instruction → Step
 safeInstructed s c code instruction = step (s .records) (instructedAfter c code (s .refusal) instruction)
 
--- an argument: nothing where it is in place; else it is made safe and copied, or handed on
+-- rules 12.4 to 12.6: nothing for an argument that is in place; otherwise it is printed as new, or as a value
 unfoldable pub argumentMade :
     Counters → List ℕ → List ℕ → Target → Level → GenContext → ℕ → RegType → Bool → Branch → CodeDeque → Step
 argumentMade c records mappings target level context v place isNew branch code =
@@ -109,7 +109,7 @@ argumentMade c records mappings target level context v place isNew branch code =
     (argumentValue (recordAt records v) target place (c .«arg_c») (c .«in_tail_position») branch)
     code
 
--- a head's temporary that is also an argument of the head, in that register
+-- a temporary of the head with the use `h`:r
 abbrev pub shallowInHeadOf : VarAlloc → List ℕ → List ℕ → ℕ → ℕ → Bool
 shallowInHeadOf (Temp Head register safety toPerm) useSets useCounts v r =
     containsUse (usesOf useSets useCounts v) (useCode headContext r)
@@ -129,11 +129,11 @@ metIn records useSets useCounts (Mid chunk) v place = false
 metIn records useSets useCounts (Last chunk) v place = false
 metIn records useSets useCounts Head v place = shallowInHead records useSets useCounts v (numberOfPlace place)
 
--- a subterm's variable has been met before: it was marked, or it is an argument of the head too
+-- rule 12.7: a subterm counts as met if it is not new, or if it is an argument of the head in its place
 unfoldable pub met : List ℕ → List ℕ → List ℕ → GenContext → ℕ → RegType → Bool → Bool
 met records useSets useCounts context v place isNew = not isNew || metIn records useSets useCounts context v place
 
--- a subterm: handed on, or made safe and put down
+-- rules 12.8 and 12.9: a subterm that counts as met is printed as a value, any other as new
 unfoldable pub subtermMade :
     Counters → List ℕ → List ℕ → List ℕ → List ℕ → Target → GenContext → ℕ → RegType → Bool → Branch → CodeDeque → Step
 subtermMade c records mappings useSets useCounts target context v place isNew branch code =
@@ -146,9 +146,9 @@ subtermMade c records mappings useSets useCounts target context v place isNew br
     code
     (subtermToVariable target place)
 
--- ---- A variable as an argument
+-- ---- A variable as an argument: rule 12.3
 
--- another variable than v in the argument's register is evacuated
+-- k is evacuated if another variable than v is mapped to it
 unfoldable pub othersOut : Counters → List ℕ → List ℕ → Sets → ℕ → ℕ → CodeDeque → Evacuation
 othersOut c records mappings s v chunk code =
     if leb variables (mappedAt mappings (c .«arg_c»)) then evacuation records mappings (goingOn c code)

@@ -1,5 +1,4 @@
--- The events that only set numbers: `head`, `args`, `next`, `reset`, `contents`, `clearfree`, `tail`, `give`, `incr` and
--- `safe`.
+-- The events that set numbers: rules 14.1 to 14.10.
 use Prim.Native.Nat.{ℕ, _+_}
 use mathlib.Core.Bool.{Bool, false}
 use mathlib.Core.List.{List, [], _∷_}
@@ -23,11 +22,11 @@ use Rattle.record_marks.specs.declared.MarkedSafe.{MarkedSafe}
 use Rattle.record_marks.specs.declared.MarkedSafe.the-variants.{Safe, FromTemporary, Stopped}
 use Rattle.record_marks.specs.RecordMarks.{markedUnconditionally}
 
--- ---- `args` n: arguments are marked from 1 on, and registers are searched for from n + 1
+-- ---- `args` n, rule 14.2: arguments are marked from 1 on, and registers are searched for from n + 1
 abbrev pub argReset : Counters → ℕ → Counters
 argReset c arity = withTempLb (counterAfter arity) (withArgC 1 (withArity 0 c))
 
--- ---- `head`: a list of variables, a number past the last variable standing for `-`
+-- ---- `head`, rule 14.1: a list of variables, a number past the last variable standing for `-`
 
 -- arguments past the 63rd, which events refuse, do not count
 abbrev pub headArguments : List ℕ → List ℕ
@@ -74,11 +73,11 @@ unfoldable pub headReset : Counters → List ℕ → List ℕ → List ℕ → H
 headReset c records mappings arguments =
     argumentsPlaced (heading records mappings (headBegun c (length (headArguments arguments)))) 1 (headArguments arguments)
 
--- ---- `next`
+-- ---- `next`: rule 14.7
 abbrev pub argAdvanced : Counters → Counters
 argAdvanced c = withArgC (counterAfter (c .«arg_c»)) c
 
--- ---- `reset`, `contents` and `clearfree`
+-- ---- `reset`, `contents` and `clearfree`: rules 14.8, 14.9 and 14.10
 
 -- what a reset changes
 pub record Clearing : Type 0 where
@@ -101,15 +100,15 @@ contentsReset c = clearing noMappings (withFreedRegisters 0 (withInUse emptySet 
 abbrev pub slotsReset : Clearing → Clearing
 slotsReset cleared = clearing (cleared .mappings) (withPermLb 1 (cleared .counters))
 
--- reset clears neither the freed-slot queue nor arg_c, temp_lb, arity or branches
+-- what `contents` does, and the next slot is 1; all else stays
 unfoldable pub wholeReset : Counters → Clearing
 wholeReset c = slotsReset (contentsReset c)
 
--- ---- `tail`
+-- ---- `tail`: rule 14.6
 abbrev pub tailSet : Counters → ℕ → Counters
 tailSet c tail = withInTailPosition tail c
 
--- ---- `give` r: r is not in use and joins the freed registers, unless these are 64: refusal 7
+-- ---- `give` r, rule 14.5: r is taken out of use and joins the freed registers, unless they are full
 unfoldable pub registerFreed : Counters → List ℕ → ℕ → Release
 registerFreed c list r =
     if leb freedRegisters (c .«freed_registers») then release list (record { counters = c; refusal = refusedFull })
@@ -126,13 +125,13 @@ pub record Answer : Type 0 where
 abbrev pub answer : List ℕ → ℕ → Answer
 answer records refusal = record { records = records; refusal = refusal }
 
--- one more is counted; a count passing 65,535 is refusal 7
+-- rule 14.3: one more is counted, unless the count is full
 unfoldable pub runningIncremented : List ℕ → ℕ → Answer
 runningIncremented records v =
     if leb counts (recordAt records v .«running_count») then answer records refusedFull
     else answer (recordPut records v (runningAt (recordAt records v) (recordAt records v .«running_count» + 1))) accepted
 
--- `safe` on a Pending variable is refusal 4
+-- rules 4.4 and 14.4: of a variable that is Pending it is refused
 abbrev pub safeMarkedAs : MarkedSafe → List ℕ → ℕ → Answer
 safeMarkedAs (Safe variable) records v = answer (recordPut records v variable) accepted
 safeMarkedAs FromTemporary records v = answer records refusedStop

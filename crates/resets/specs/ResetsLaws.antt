@@ -59,7 +59,7 @@ module _ (arguments : List ℕ) (i k : ℕ) where
   placed-end {h} {whole} e l =
       sym (ap (argumentsPlaced h k) (drop-of-length-le (headArguments arguments) {i = i} l)) ∙ e
 
--- a variable that occurs twice gets only its first argument's register: after that it waits for none
+-- rule 14.1: a variable that occurs twice gets only its first argument's register: after that it waits for none
 module _ (k : ℕ) (positive : 0 < k) where
   placed-has : (allocation : VarAlloc) → hasNoRegister (placeOfAlloc (placedAlloc allocation k)) ≡ false
   placed-has (Temp context register safety toPerm) = ne-eqb k 0 (omega arith)
@@ -86,7 +86,7 @@ module _ (k : ℕ) (positive : 0 < k) where
 
 -- ---- Resets
 
--- reset clears neither the freed-slot queue nor arg_c, temp_lb, arity or branches
+-- rule 14.8: what `reset` leaves as it is
 pub reset-keeps :
     (c : Counters)
     → (wholeReset c .counters .«first_freed_slot» ≡ c .«first_freed_slot»)
@@ -101,7 +101,7 @@ pub reset-keeps :
 unfolding wholeReset contentsReset
 reset-keeps c = (refl, refl, refl, refl, refl, refl, refl, refl, refl)
 
--- it clears the mappings, the in-use set and the freed registers, and gives out slots from 1 on
+-- and what it empties: the mapping, the set of registers in use and the freed registers; the next slot is 1
 pub reset-clears :
     (c : Counters)
     → (wholeReset c .mappings ≡ noMappings)
@@ -120,7 +120,7 @@ none-mapped r =
     ]
     refl
 
--- contents does the same, and keeps the slots
+-- rule 14.9: `contents` empties the same, and the next slot stays
 pub contents-keep-slots : (c : Counters) → contentsReset c .counters .«perm_lb» ≡ c .«perm_lb»
 unfolding contentsReset
 contents-keep-slots c = refl
@@ -128,13 +128,13 @@ contents-keep-slots c = refl
 -- ---- `safe`
 
 module _ (records rows : List ℕ) (opened v slot : ℕ) where
-  -- on a Pending variable it is refused
+  -- rule 4.4: of a variable that is Pending it is refused
   pub safe-pending :
       recordAt records v .allocation ≡ Perm slot Pending → safeMarked records rows opened v ≡ answer records refusedStop
   unfolding safeMarked
   safe-pending e = simp e
 
-  -- on one whose slot is given out it is not, and neither safety is needed within the branch
+  -- rule 14.4: of one that is Done it is not, and both safeties become unneeded in the current branch
   pub safe-done :
       (shallow deep : VarSafetyStatus) → recordAt records v .allocation ≡ Perm slot (Done shallow deep)
       → safeMarked records rows opened v ≡ answer (recordPut records v (safeIn (recordAt records v) slot (currentBranch rows opened))) accepted

@@ -1,4 +1,4 @@
--- The restricting sets of all temporaries, as `sets` populates them: document 01, "Rules easily missed".
+-- The restricting sets of all temporaries, as `sets` makes them: rules 7.2 and 7.3.
 use Prim.Native.Nat.{ℕ, zero, suc, _+_}
 use mathlib.Core.Path.{_≡_}
 use mathlib.Core.Bool.{Bool, not, _&&_, _||_}
@@ -31,23 +31,24 @@ chunkOf chunks v = getD chunks v noChunk
 unfoldable pub isTemporary : List ℕ → ℕ → Bool
 isTemporary chunks v = isChunk (chunkOf chunks v)
 
--- one of two things: u < v, or v does not use r
+-- u comes before v, or v has no use of r
 unfoldable pub beforeOrFree : List ℕ → List ℕ → ℕ → ℕ → ℕ → Bool
 beforeOrFree useSets useCounts u v r = ltb u v || not (usesRegister (usesOf useSets useCounts v) r)
 
 module _ (useSets useCounts chunks : List ℕ) where
-  -- a temporary u ≠ v with (Last(v's chunk), r) in its use set, for which one of two things holds
+  -- u is another temporary, has a use of r in the last goal of v's chunk, and one of these two holds
   unfoldable pub restricts : ℕ → ℕ → ℕ → Bool
   restricts u v r =
       isTemporary chunks u && not (eqb u v)
       && containsUse (usesOf useSets useCounts u) (useCode (lastContext (chunkOf chunks v)) r)
       && beforeOrFree useSets useCounts u v r
 
-  -- a temporary's no-use set: r was there, or some u restricts v at r
+  -- rule 7.2: a temporary's no-use set keeps what it has, and gets each r at which some u restricts v
   unfoldable pub noUseOf : ℕ → ℕ → ℕ
   noUseOf noUseSet v =
       if isTemporary chunks v then collected (λ r. has noUseSet r || any (λ u. restricts u v r) (below variables)) else noUseSet
 
+  -- rule 7.3: a temporary's conflict set is made anew
   unfoldable pub conflictAt : ℕ → ℕ → ℕ
   conflictAt conflictSet v = if isTemporary chunks v then conflictOf (usesOf useSets useCounts v) else conflictSet
 

@@ -1,4 +1,4 @@
--- What populating makes of each set, in document 01's words.
+-- What `sets` makes of each set, as plain facts.
 use Prim.Native.Nat.{ℕ, _≤_, _<_}
 use mathlib.Core.Path.{_≡_, refl, sym, ap, _∙_}
 use mathlib.Core.Bool.{true, false, not, _&&_, _||_, false≢true}
@@ -22,7 +22,7 @@ use Rattle.restricting_sets.specs.RowsLaws.{anew-at}
 use Rattle.restricting_sets.specs.StepLaws.{no-use-kept, conflict-kept, conflict-made}
 
 module _ (useSets useCounts chunks : List ℕ) (v r : ℕ) where
-  -- one of two things: u < v, or v does not use r
+  -- u comes before v, or v has no use of r
   abbrev pub BeforeOrFree : ℕ → Type 0
   BeforeOrFree u = (u < v) ⊎ ((code : ℕ) → code ∈ usesOf useSets useCounts v → r ≡ registerOf code → ⊥)
 
@@ -35,7 +35,7 @@ module _ (useSets useCounts chunks : List ℕ) (v r : ℕ) where
         λ s. either .1 (⊎-map (lt-ltb u v) (λ f. ap not (refuted _ (λ e. (let u = used .0 e in f (u .0) (u .1) (u .2))))) s),
       )
 
-  -- a temporary u ≠ v with (Last(v's chunk), r) in its use set, for which one of two things holds
+  -- u is another temporary, has a use of r in the last goal of v's chunk, and one of these two holds
   abbrev pub Restricts : ℕ → Type 0
   Restricts u =
       (isTemporary chunks u ≡ true) × (u ≡ v → ⊥)
@@ -61,7 +61,7 @@ module _ (useSets useCounts chunks : List ℕ) (v r : ℕ) where
     unfolding noUseOf
     no-use-test = rw (anew-at (noUseOf useSets useCounts chunks) noUse v inside) (simp temporary (has-collected _ r h))
 
-    -- r is in v's no-use set exactly if it was there, or there is such a u
+    -- rule 7.2: v's no-use set has r exactly if it had r before, or there is such a u
     pub no-use-exactly :
         (has (getD (rowsAnew (noUseOf useSets useCounts chunks) noUse) v 0) r ≡ true)
         ↔ ((has (getD noUse v 0) r ≡ true) ⊎ ((u : ℕ) × (u < variables) × Restricts u))
@@ -75,13 +75,13 @@ module _ (useSets useCounts chunks : List ℕ) (v r : ℕ) where
 -- ---- The other sets
 
 module _ (useSets useCounts chunks : List ℕ) (v : ℕ) (inside : v < variables) where
-  -- a temporary's conflict set is made anew
+  -- rule 7.3: a temporary's conflict set is made anew
   pub conflict-anew :
       (conflict : List ℕ) → isTemporary chunks v ≡ true
       → getD (rowsAnew (conflictAt useSets useCounts chunks) conflict) v 0 ≡ conflictOf (usesOf useSets useCounts v)
   conflict-anew conflict e = anew-at _ conflict v inside ∙ conflict-made useSets useCounts chunks v (getD conflict v 0) e
 
-  -- the sets of another variable stay
+  -- the sets of a permanent variable stay
   pub no-use-stays :
       (noUse : List ℕ) → isTemporary chunks v ≡ false
       → getD (rowsAnew (noUseOf useSets useCounts chunks) noUse) v 0 ≡ getD noUse v 0
@@ -92,7 +92,7 @@ module _ (useSets useCounts chunks : List ℕ) (v : ℕ) (inside : v < variables
       → getD (rowsAnew (conflictAt useSets useCounts chunks) conflict) v 0 ≡ getD conflict v 0
   conflict-stays conflict e = anew-at _ conflict v inside ∙ conflict-kept useSets useCounts chunks v (getD conflict v 0) e
 
--- ---- Sheet 2: two temporaries of chunk 1, each with the one use l1:2, have no-use {} and {2}
+-- ---- Rule 24.2: two temporaries of chunk 1, each with the one use l1:2, have the no-use sets {} and {2}
 
 abbrev row : List ℕ
 row = useCode (lastContext 1) 2 ∷ replicate 15 0

@@ -1,4 +1,4 @@
--- The steps of populating: after one use, after the uses of a variable, after those of all.
+-- The steps of `sets`: after one use, after the uses of a variable, after those of all.
 use Prim.Native.Nat.{ℕ, suc, _-_, _^_, _≤_, _<_}
 use mathlib.Core.Path.{_≡_, refl, sym, ap, ap₂, _∙_}
 use mathlib.Core.Bool.{Bool, true, false, not, _&&_, _||_, and-true, and-false, or-assoc, or-false}

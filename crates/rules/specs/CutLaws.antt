@@ -1,4 +1,4 @@
--- Laws of a cut's mark: it counts nothing and frees nothing.
+-- Laws of a cut's mark, rule 13.6: it counts nothing and frees nothing.
 use Prim.Native.Nat.{ℕ, _*_, _≤_, _<_}
 use mathlib.Core.Path.{_≡_, refl, ap, _∙_}
 use mathlib.Core.Bool.{true, false≢true}

@@ -203,7 +203,7 @@ anonMakes c records mappings s list target level context =
 
 -- ---- An event
 
--- only a mark makes instructions, and the mark of a cut's variable makes none
+-- rule 16.2: only a mark makes instructions, and that of a cut's variable, rule 13.5, makes none
 module _ (s : State) where
   abbrev pub eventMakes : Event → List Instruction
   eventMakes (Temp context occurrences) = []

@@ -132,6 +132,6 @@ module _ (s : State) where
       ∙ ap codeList (seen-code (actedOf (carriedOut s event list)) event)
       ∙ nothing-left-out event list
 
-  -- so an event makes three at most
+  -- rule 16.2: an event makes three at most
   pub three-at-most : (event : Event) → length (eventMakes s event) ≤ 3
   three-at-most event = omega (arith, ap length (nothing-left-out event []), code-short (carriedOut s event [] .code))

@@ -1,4 +1,4 @@
--- Laws of a slot that is taken from the freed-slot queue.
+-- Laws of a slot that the queue of freed slots gives.
 use Prim.Native.Nat.{ℕ, _+_, _*_, _≤_, _<_}
 use mathlib.Core.Path.{_≡_, refl, sym, ap, _∙_}
 use mathlib.Core.Logic.{_≢_}

@@ -1,4 +1,4 @@
--- Document 01, "Rules easily missed": each rule as a fact about the definitions, in its order.
+-- Rules that are easily missed, each as a fact about the definitions.
 use Prim.Native.Nat.{ℕ, _+_, _*_, _%_, _≤_, _<_}
 use mathlib.Core.Path.{_≡_, refl, ap, sym, _∙_}
 use mathlib.Core.Bool.{true, false, false≢true}
@@ -59,7 +59,7 @@ use Rattle.rules.specs.CutLaws.{cut-keeps, cut-none-pending, cut-no-more
 use Rattle.rules.specs.QueueLaws.{found-owned, found-some, given-to, taken-from}
 use Rattle.rules.specs.LineLaws.{line-either-way, line-in-use, line-counts, line-frees, line-leaves}
 
--- v does not use r
+-- v has no use of r
 abbrev pub DoesNotUse : List ℕ → List ℕ → ℕ → ℕ → Type 0
 DoesNotUse useSets useCounts v r = (code : ℕ) → code ∈ usesOf useSets useCounts v → r ≡ registerOf code → ⊥
 
@@ -67,8 +67,7 @@ module _
     (c : Counters) (records useSets useCounts : List ℕ) (before : Restricting) (held : c .records ≤ variables)
     (sized : (u : ℕ) → Temporary c records u → chunkIn c records u ≤ chunks) (v r : ℕ) (temporary : Temporary c records v)
     (inside : r ≤ registers) where
-  -- ---- 1. "So r is in v's no-use set exactly if it was there, or there is a temporary u ≠ v with (Last(v's chunk), r) in
-  -- its use set for which one of two things holds: u < v, or v does not use r."
+  -- ---- Rule 7.2: what `sets` adds to a no-use set
 
   pub no-use-set-exactly :
       (has (getD (populated c records useSets useCounts before .noUse) v 0) r ≡ true)
@@ -79,15 +78,14 @@ module _
       × ((u < v) ⊎ DoesNotUse useSets useCounts v r))))
   no-use-set-exactly = no-use-of-records c records held sized useSets useCounts before v r temporary inside
 
-  -- ---- 2. "The conflict set is 1 up to the use set's size, upper end excluded, less every used register."
+  -- ---- Rule 7.3: what `sets` makes of a conflict set
 
   pub conflict-set-exactly :
       (has (getD (populated c records useSets useCounts before .conflict) v 0) r ≡ true)
       ↔ ((1 ≤ r) × (r < length (usesOf useSets useCounts v)) × DoesNotUse useSets useCounts v r)
   conflict-set-exactly = conflict-of-records c records held sized useSets useCounts before v r temporary inside
 
--- ---- 3. "A use-set register not in use wins, in list order, even if in the no-use set. Otherwise the least register from
--- temp_lb that is not in use and not in no-use (nor conflict, in alloc_with_ca)."
+-- ---- Rules 8.2 and 8.3: the choice for a variable
 
 module _ (c : Counters) (useSets useCounts noUse conflict : List ℕ) (v : ℕ) where
   -- the entries before it are in use; the no-use set and the conflict set may be any
@@ -118,14 +116,13 @@ module _ (c : Counters) (useSets useCounts noUse conflict : List ℕ) (v : ℕ) 
         rw (otherwise-least c (usesOf useSets useCounts v) (union (setAt noUse v) (setAt conflict v)) (none-unused c (usesOf useSets useCounts v) taken))
         (least-apart-exactly c (setAt noUse v) (setAt conflict v) r)
 
--- ---- 4. "In use: from arg_c to arity, or in the set. The set also receives stack slot numbers. The search for a
--- non-variable tests only the set; its free list tests both."
+-- ---- Rules 8.1, 8.5 and 12.10: what is in use, and what the choice for another term looks at
 
 module _ (c : Counters) (r : ℕ) where
   pub in-use-exactly : (inUse c r ≡ true) ↔ (((c .«arg_c» ≤ r) × (r ≤ c .arity)) ⊎ (has (c .«in_use») r ≡ true))
   in-use-exactly = in-use-parts c r
 
--- a variable whose mark is at a slot: the slot's number is in the set from then on
+-- rule 12.10: the number of a slot in which a variable was marked is in the set from then on
 module _ (s : State) (target : Target) (level : Level) (context : GenContext) (v : ℕ) (list : List ℕ) where
   pub set-receives-slot-numbers :
       let after = stepped s (Var target level context v) list in
@@ -138,7 +135,7 @@ module _ (s : State) (target : Target) (level : Level) (context : GenContext) (v
       line-in-use s size target level context v inside list accepted (PermSlot slot) register at
 
 module _ (c : Counters) (r : ℕ) where
-  -- no freed register is given: the least from temp_lb that is not in the set, whatever arg_c and arity are
+  -- rule 8.5: where no freed register is given, the least from `temp_lb` up that is not in the set, whatever the arguments
   pub non-variable-search-tests-the-set :
       (list : List ℕ) → popped c list (c .«freed_registers») .chosen ≡ NoRegister
       → (nonVar c list .chosen ≡ Register r) ↔ LeastFrom (c .«temp_lb») (λ q. has (c .«in_use») q ≡ false) r
@@ -146,7 +143,7 @@ module _ (c : Counters) (r : ℕ) where
   non-variable-search-tests-the-set list none =
       rw (none, searched-chosen c (leastOutside c)) (least-outside-exactly c r)
 
-  -- a freed register that is given is neither from arg_c to arity nor in the set
+  -- rule 8.5: a freed register that is given is neither between `arg_c` and `arity` nor in the set
   pub free-list-tests-both :
       (list : List ℕ) → popped c list (c .«freed_registers») .chosen ≡ Register r
       → (nonVar c list .chosen ≡ Register r) × (c .«arg_c» ≤ r → r ≤ c .arity → ⊥) × (has (c .«in_use») r ≡ false)
@@ -164,7 +161,7 @@ module _ (c : Counters) (r : ℕ) where
       → (i : ℕ) → i < c .«freed_registers» → inUse c (getD list (i % freedRegisters) 0) ≡ true
   free-list-tests-no-more list nothing = popped-nothing c list (c .«freed_registers») nothing
 
--- ---- 5. "A new temporary's register is stored after the in-place test, so outside the head it is never in place."
+-- ---- Rule 12.4: a new temporary outside the head
 
 -- a new temporary has register 0 in its record; the argument counter begins at 1
 module _ (context at : GenContext) (safety : VarSafetyStatus) (toPerm : ℕ) (outside : context ≢ Head) where
@@ -187,7 +184,7 @@ module _ (context at : GenContext) (safety : VarSafetyStatus) (toPerm : ℕ) (ou
   new-temporary-instructed c records mappings target level v r branch code new positive =
       simp (new-temporary-never-in-place (recordAt records v) new r (c .«arg_c») positive, new)
 
--- ---- 6. "A var mark adds to running_count while below num_occurrences; otherwise it frees the variable. cut does neither."
+-- ---- Rules 12.10 and 13.6: `var` counts its variable or frees it; `cut` counts and frees nothing
 
 module _
     (s : State) (size : length (s .records) ≡ variables * rowCells) (target : Target) (level : Level) (context : GenContext) (v : ℕ)
@@ -256,8 +253,7 @@ module _ (s : State) (size : length (s .records) ≡ variables * rowCells) (v ch
       (λ refusal. (refl, omega arith))
       (refl, cut-no-more (s .counters) (s .records) (s .«freed_slots») (s .«freed_registers») v chunk)
 
--- ---- 7. "The freed-slot queue gives only its front, and only to a strictly later chunk. A slot is taken if above 0 and
--- Pending, and the old owner's slot becomes 0; other old entries are dropped."
+-- ---- Rules 10.1, 10.2 and 10.4: the queue of freed slots
 
 module _ (records : List ℕ) (chunk dropped : ℕ) (front : FreedSlot) (behind : List FreedSlot) where
   pub front-given-to-a-later-chunk :
@@ -305,7 +301,7 @@ module _
             ∙ taken-from found c records v positive size held inside owned slotless pending,
       )
 
--- ---- 8. "In the head a shallow get_variable makes only shallow safety globally unneeded."
+-- ---- Rule 12.5: a permanent variable as a new argument of the head
 
 module _ (slot : ℕ) (shallow deep : VarSafetyStatus) (branch : Branch) where
   pub head-makes-only-shallow-safety-unneeded :
@@ -324,12 +320,12 @@ module _ (slot : ℕ) (shallow deep : VarSafetyStatus) (branch : Branch) where
   unfolding argumentMade safeMade instructedAfter
   head-get-variable c records mappings v code done = simp done
 
--- ---- 9. "reset clears neither the freed-slot queue nor arg_c, temp_lb, arity or branches."
+-- ---- Rule 14.8: what `reset` leaves as it is
 
 module _ (s : State) (list : List ℕ) where
   pub reset-clears-neither :
       let after = stepped s Reset list .state in
-      -- the freed-slot queue
+      -- the queue of freed slots
       (after .«freed_slots» ≡ s .«freed_slots»)
       × (after .counters .«first_freed_slot» ≡ s .counters .«first_freed_slot»)
       × (after .counters .«freed_slots» ≡ s .counters .«freed_slots»)

@@ -47,7 +47,7 @@ pub record LeastFrom (n : ℕ) (Holds : ℕ → Type 0) (r : ℕ) : Type 0 where
 no-register : (r : ℕ) → NoRegister ≡ Register r → ⊥
 no-register r e = let z : _≡_ {A = ℕ} 0 1 = cc in omega arith
 
--- the first register from n on that passes a test is the least for which that holds which the test tells
+-- where a test is passed exactly by what `Holds`, the first register from n on that passes is the least that does
 module _ (test : ℕ → Bool) (Holds : ℕ → Type 0) (tells : (q : ℕ) → (test q ≡ true) ↔ Holds q) (n r : ℕ) where
   least-told : Least test n (suc registers) r ↔ LeastFrom n Holds r
   least-told = (

@@ -1,4 +1,4 @@
--- Laws of settling: the place's number is in use, and the variable is counted or freed.
+-- Laws of settling, rule 12.10: the place's number is in use, and the variable is counted or freed.
 use Prim.Native.Nat.{ℕ, _+_, _*_, _≤_, _<_}
 use mathlib.Core.Path.{_≡_, refl, sym, ap, _∙_}
 use mathlib.Core.Bool.{Bool, true, false, or-true, false≢true}

@@ -103,7 +103,7 @@ module _ {before : List ℕ} {records : List ℕ} (kept : CountsKept before reco
   new-slot-keeps c v permanent =
       either-way (λ (p : Placement). CountsKept before (p .records)) (ltb registers (c .«perm_lb»)) kept (given-keeps v (c .«perm_lb») permanent)
 
--- ---- The safety of a variable that is met for the first time
+-- ---- The safety of a variable that is new
 
 module _ {before : List ℕ} {records : List ℕ} (kept : CountsKept before records) where
   remembers-keeps :

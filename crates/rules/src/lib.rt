@@ -1,1 +1,1 @@
-// The rules that document 01 calls easily missed, as facts about the definitions; there is no code here.
+// Rules that are easily missed, as facts about the definitions; there is no code here.

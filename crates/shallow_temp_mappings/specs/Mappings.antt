@@ -1,4 +1,4 @@
--- Which temporary's value stands in which register.
+-- The mapping of rule 6.1: which temporary's value stands in which register.
 use Prim.Native.Nat.{ℕ}
 use mathlib.Core.List.{List}
 use lib.Dec.{leb}

@@ -1,56 +1,56 @@
--- The sizes of document 01, "Sizes", each named once, in its order.
+-- The sizes, each named once.
 use Prim.Native.Nat.{ℕ, _+_}
 use mathlib.Core.Bool.{Bool, _&&_}
 use lib.Dec.{leb}
 
--- variables of a clause
+-- rules 3.2 and 3.16: variables of a clause, and of a check sheet
 abbrev pub variables : ℕ
 variables = 64
 
--- uses of each variable
+-- rule 3.3: uses of a temporary
 abbrev pub uses : ℕ
 uses = 16
 
--- registers and slots are 1..63, arguments and cells 0..63
+-- rules 3.4, 3.5 and 3.16: registers and slots are 1 to 63, arguments and cells 0 to 63
 abbrev pub registers : ℕ
 registers = 63
 
--- chunks are 0..255
+-- rule 3.6: chunks are 0 to 255
 abbrev pub chunks : ℕ
 chunks = 255
 
--- occurrences, running counts, arms and arm indices are 0..65,535
+-- rule 3.7: occurrences, running counts, arms and arm indices are 0 to 65,535
 abbrev pub counts : ℕ
 counts = 65_535
 
--- open branches
+-- rule 3.8: open branches
 abbrev pub openBranches : ℕ
 openBranches = 16
 
--- freed registers
+-- rule 3.9: freed registers
 abbrev pub freedRegisters : ℕ
 freedRegisters = 64
 
--- the freed-slot queue
+-- rule 3.10: entries of the queue of freed slots
 abbrev pub freedSlots : ℕ
 freedSlots = 128
 
--- bytes of a sheet
+-- rule 3.1: bytes of a sheet
 abbrev pub sheetBytes : ℕ
 sheetBytes = 65_536
 
--- `temp_lb`, `perm_lb` and the argument counter run from 1 to 64
+-- rule 3.11: `arg_c`, `temp_lb` and `perm_lb` are 1 to 64
 abbrev pub counters : ℕ
 counters = registers + 1
 
--- step lines of a check sheet, and instructions of a step
+-- rule 3.15: step lines of a check sheet, and instructions of a step
 abbrev pub steps : ℕ
 steps = 256
 
 abbrev pub instructions : ℕ
 instructions = 4
 
--- the largest number of a sheet
+-- rule 2.3: the largest number of a sheet
 abbrev pub largestNumber : ℕ
 largestNumber = 4_294_967_295
 

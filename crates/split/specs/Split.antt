@@ -1,4 +1,4 @@
--- Lines end in LF, fields are parted by one tab: a list of bytes cut at a mark.
+-- A list of bytes cut at a mark: at LF into lines, rule 2.1, and at tabs into fields, rule 2.2.
 use Prim.Native.Nat.{ℕ}
 use mathlib.Core.List.{List, [], _∷_, _++_}
 use lib.Dec.{eqb}

@@ -1,4 +1,4 @@
-// Carries out clauses whose lines are given as numbers, and shows what each comes to: its answer and its final state.
+// Carries out clauses whose lines are given as numbers, and shows the outcome of each: its answer and its final state.
 //
 // A line is numbers with a tab between each two: the event's code, from 1 in the order of `Event`; its numbers; its
 // list. A target is 0 or 1 (fact, query), a level 0 to 2 (root, shallow, deep), a context two numbers: 0 to 2 (head,
@@ -619,7 +619,7 @@ fn write(text: &[u8]) {
     }
 }
 
-// Writes what was put up to `end`; if it found no room, a line that no clause comes to.
+// Writes what was put up to `end`; if it found no room, a line that no clause has.
 fn say(text: &[u8], end: usize) {
     if end <= text.len() {
         write(&text[0..end]);

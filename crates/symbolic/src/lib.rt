@@ -84,7 +84,7 @@ struct WantedCounts {
     pub goal: usize,
 }
 
-// What a line comes to, beside the tables.
+// The outcome of a line, beside the tables.
 pub struct Taken {
     pub order: Order,
     pub counts: Counts,
@@ -563,7 +563,7 @@ fn carry(
     }
 }
 
-// What a line comes to, put together.
+// The outcome of a line, put together.
 fn with_refusal(order: Order, counts: Counts, refusal: u32) -> Taken
     ensures { λ r. ⌜ r ≡ takenWith order counts refusal ⌝ }
 {

@@ -1,4 +1,4 @@
--- The instruction that a fact or a query needs for a variable, under the Rust's names.
+-- The instruction that stands for a variable in a fact or a query, rule 11.3, under the original's names.
 use Prim.Native.Nat.{ℕ}
 use Rattle.registers.specs.declared.RegType.{RegType}
 use Rattle.registers.specs.declared.RegType.the-variants.{Temp, Perm}
@@ -17,13 +17,13 @@ abbrev pub argumentToValue : Target → RegType → ℕ → Instruction
 argumentToValue Fact r k = GetValue r k
 argumentToValue Query r k = PutValue r k
 
--- of a variable that is not safe yet: a query's slot has an instruction of its own
+-- a guarded value: a query's slot has an instruction of its own
 abbrev pub unsafeArgumentToValue : Target → RegType → ℕ → Instruction
 unsafeArgumentToValue Fact r k = GetValue r k
 unsafeArgumentToValue Query (Perm p) k = PutUnsafeValue p k
 unsafeArgumentToValue Query (Temp r) k = PutValue (Temp r) k
 
--- the same for both
+-- a move, the same for both
 abbrev pub moveToRegister : RegType → ℕ → Instruction
 moveToRegister r k = GetVariable r k
 

@@ -28,7 +28,7 @@ is-up-to end r e = let b = both-true _ _ e in (leb-true 1 r (b .0), ltb-true r e
 up-to-is : (end r : ℕ) → 1 ≤ r → r < end → isUpTo end r ≡ true
 up-to-is end r low high = simp (le-leb _ _ low, lt-ltb _ _ high)
 
--- r is in the conflict set exactly if it is 1 up to the use set's size, upper end excluded, and no use has it
+-- rule 7.3: the conflict set has r exactly if r is 1 or more, below the number of entries, and no entry has it
 pub conflict-exactly :
     (useSet : List ℕ) (r : ℕ) → r ≤ registers
     → (has (conflictOf useSet) r ≡ true) ↔ ((1 ≤ r) × (r < length useSet) × ((code : ℕ) → code ∈ useSet → r ≡ registerOf code → ⊥))
@@ -45,7 +45,7 @@ conflict-exactly useSet r h =
       λ s. member ∙ simp (up-to-is (length useSet) r (s .0) (s .1), refuted _ (λ e. (let u = used .0 e in s .2 (u .0) (u .1) (u .2)))),
     )
 
--- uses l1:1, l1:4, l1:5: conflict {2}
+-- rule 24.3: of the uses l1:1, l1:4, l1:5 the conflict set is {2}
 pub conflict-of-sheet-3 :
     conflictOf (useCode (lastContext 1) 1 ∷ useCode (lastContext 1) 4 ∷ useCode (lastContext 1) 5 ∷ []) ≡ inserted emptySet 2
 unfolding conflictOf collected collectedBelow usesRegister any inserted

@@ -1,4 +1,4 @@
--- Use sets, kept beside the records as rows of one table, and what is read off them.
+-- Use sets, rule 7.1, kept beside the records as rows of one table, and what is read off them.
 use Prim.Native.Nat.{ℕ, _+_, _*_, _/_, _%_, min}
 use mathlib.Core.Path.{_≡_}
 use mathlib.Core.Bool.{Bool, not, _&&_}
@@ -36,7 +36,7 @@ registerOf code = lowByte code
 
 -- ---- The use set of a variable
 
--- as many entries of the row of v as count, in order; no row has more than 16
+-- as many entries of the row of v as count, in order; no row has more than rule 3.3 allows
 unfoldable pub usesOf : List ℕ → List ℕ → ℕ → List ℕ
 usesOf useSets useCounts v = take (min (getD useCounts v 0) uses) (drop (v * uses) useSets)
 
@@ -46,7 +46,7 @@ usesRegister useSet register = any (λ code. eqb register (registerOf code)) use
 unfoldable pub containsUse : List ℕ → ℕ → Bool
 containsUse useSet code = any (λ entry. eqb code entry) useSet
 
--- ---- One use more: order kept, a repeat ignored, a full row left as it is
+-- ---- One use more, rule 5.5: it stands last, and is left out where it is there already; a full row stays as it is
 
 module _ (useSets useCounts : List ℕ) (v code : ℕ) where
   -- whether there is room in the row of v, and the use is not there yet
@@ -65,7 +65,7 @@ pub record UseAdded (useSets useCounts : List ℕ) (v code : ℕ) (setsAfter cou
   pub sets : setsAfter ≡ useSetsWith useSets useCounts v code
   pub counts : countsAfter ≡ useCountsWith useSets useCounts v code
 
--- ---- The conflict set: 1 up to the use set's size, upper end excluded, less every used register
+-- ---- The conflict set, rule 7.3: from 1 up to, but not including, the number of entries, without registers that are used
 
 abbrev pub isUpTo : ℕ → ℕ → Bool
 isUpTo end r = leb 1 r && ltb r end

@@ -1,4 +1,4 @@
--- A record as numbers: the meaning of each code, and the table of rows.
+-- A record, rules 6.3 and 6.4, as numbers: the meaning of each code, and the table of rows.
 use Prim.Native.Nat.{ℕ, _+_, _*_, _%_}
 use mathlib.Core.Bool.{Bool, true, false}
 use mathlib.Core.List.{List}

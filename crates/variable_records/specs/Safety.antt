@@ -1,4 +1,4 @@
--- Safety: whether handing on a variable's value has to be guarded.
+-- Safety: where handing on a value has to be guarded.
 use mathlib.Core.Bool.{Bool, true, false}
 use lib.Dec.{ltb}
 use Rattle.notation.specs.Choice.{if_then_else_}
@@ -7,15 +7,15 @@ use Rattle.forms.specs.Forms.{hasAsSubbranch}
 use Rattle.variable_records.specs.declared.VarSafetyStatus.{VarSafetyStatus}
 use Rattle.variable_records.specs.declared.VarSafetyStatus.the-variants.{Needed, LocallyUnneeded, GloballyUnneeded}
 
--- guarded in a branch: any branch with start 0 counts as global
+-- rule 11.2: unneeded in a branch, or everywhere where the branch starts at 0
 unfoldable pub unneededIn : Branch → VarSafetyStatus
 unneededIn branch = if ltb 0 (branch .start) then LocallyUnneeded branch else GloballyUnneeded
 
--- after branches have met: needed if it is so in any of them
+-- rule 15.6: Needed where the variable is to be guarded, and otherwise unneeded in the branch
 unfoldable pub neededIf : Bool → Branch → VarSafetyStatus
 neededIf needed branch = if needed then Needed else unneededIn branch
 
--- no guard is needed in a branch: nowhere, or in the subbranches of the one that guarded last
+-- rule 11.1: unneeded in a branch, if it is unneeded everywhere or in a branch that contains this one
 abbrev pub safetyUnneeded : VarSafetyStatus → Branch → Bool
 safetyUnneeded Needed branch = false
 safetyUnneeded (LocallyUnneeded planter) branch = hasAsSubbranch planter branch

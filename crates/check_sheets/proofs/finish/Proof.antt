@@ -1,4 +1,4 @@
--- `check_sheets::finish`: the last part is refused, the goal steps without a `call` are, or the verdict is told. Assumes nothing.
+-- `check_sheets::finish`: the last part is refused, the goal steps without a `call` are, or the verdict is given. Assumes nothing.
 use borrow.Author.Needs.{needs}
 use Rattle.check_sheets.specs.RunningLaws.{last-left, last-uncalled, last-judged}
 use Rattle.check_sheets.proofs.finish.Statement.{statement}

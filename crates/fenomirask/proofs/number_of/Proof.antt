@@ -1,4 +1,4 @@
--- `fenomirask::number_of`: each kind of answer is told by its own function.
+-- `fenomirask::number_of`: each kind of answer has a function of its own.
 -- Assumes nothing.
 use mathlib.Core.Path.{ap, sym, subst, _∙_}
 use Rattle.answered.specs.Answered.{numberOf}

@@ -1,4 +1,4 @@
--- `replies::put_check_reply`: what is told of the answer is the reply. Assumes nothing.
+-- `replies::put_check_reply`: what is put of the answer is the reply. Assumes nothing.
 use denote.Ref.{now}
 use borrow.Author.Needs.{needs}
 use Rattle.check_sheets.specs.TellsLaws.{by-verdict-so}

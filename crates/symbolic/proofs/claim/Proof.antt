@@ -1,4 +1,4 @@
--- `symbolic::claim`: what is left of the arguments comes, from here on, to what all of them come to from the start.
+-- `symbolic::claim`: what is left of the arguments gives, from here on, what all of them give from the start.
 -- The measure is how many cells are left. Assumes nothing.
 use Prim.Native.Nat.{_≤_, _-_}
 use mathlib.Core.Path.{_≡_, refl, sym, _∙_}
