@@ -1,17 +1,17 @@
 """The wrong answers of tests/wrong, held to the code as it stands: what `wrong_answers`, which has the prover refuse them, and
 `wrong_runs`, which runs them, share.
 
-A file of tests/wrong holds entries, parted by empty lines. Its lines: `fn` and the public function; `says:` and the wrong
-answer; `in:` and the private function that is changed, where it is another; `program:` and which of document 01's wrong
-programs it is, where it is one; then either `must-fail:` and the edit of the merge gate that is this wrong answer, or
-`old:` and `new:`, a text that occurs once in the function and what takes its place. A text may go on below its word, its
-lines as they stand in the code.
+A file of tests/wrong holds entries, separated by empty lines. Its lines: `fn` and the public function; `says:` and the wrong
+answer; `in:` and the private function that is changed, where it is another; `program:` and which wrong program of rule
+25.8 it is, where it is one; then either `must-fail:` and the edit of the merge gate that is this wrong answer, or `old:`
+and `new:`, a text that occurs once in the function and what takes its place. A text may go on below its word, its lines as
+they stand in the code.
 
-On what the wrong answer shows is said by one of these: `sheet:`, one of document 01, as `6` or `10.3` for the third of its
-rows in the table of known_sheets; `event:`, `bundle:` or `check:`, a sheet and behind `=>` its answer, with a space between
-fields, ` / ` between lines and `*N` behind a line that stands N times; `state:`, the lines of an event sheet and behind
-`=>` a part of the state after them and its number; `main:`, the body of a program that shows a number, and `prints:`, the
-number.
+What the wrong answer is run on stands in one of these: `sheet:`, one with a known end, as `6` for rule 24.6, or `10.3` for
+the third row of rule 24.10 in the table of known_sheets; `event:`, `bundle:` or `check:`, a sheet and behind `=>` its answer,
+with a space between fields, ` / ` between lines and `*N` behind a line that stands N times; `state:`, the lines of an event
+sheet and behind `=>` a part of the state after them and its number; `main:`, the body of a program that shows a number, and
+`prints:`, the number.
 
 An edit of a definition or of a theorem cannot be run. tests/wrong_laws has an entry for each: `edit:` and its name,
 `false of:` and an instance of which the edited text is false, and where a sheet shows it the sheet, as above.
@@ -27,11 +27,18 @@ CRATES = os.path.join(ROOT, "crates")
 ENTRIES = os.path.join(ROOT, "tests", "wrong")
 SHOWN = os.path.join(ROOT, "target", "wrong_runs")
 INSTANCES = os.path.join(ROOT, "tests", "wrong_laws")
-WANTED = 2
+ENOUGH = 2  # wrong answers of a public function
+CUT = 240  # characters of what the prover says
 FUNCTION = re.compile(r'^( *)(pub )?(?:extern "C" )?fn (\w+)')
 IMPLEMENTATION = re.compile(r"^impl (\w+) \{")
 ROWS = re.compile(r'(-- (\d+)\n)?    (?:∷ )?(?:(event|check)Sheet "(.*)" "(.*)"|noUse|conflict)')
 WORDS = {"fn": "function", "in": "place", "must-fail": "must_fail"}
+# What the prover's first error means. Only the first two name a fact that does not fit.
+MEANINGS = {
+    "two sides that were computed differ": re.compile("computed as far as they go, the two"),
+    "what is proved is not what is asked": re.compile("as printed, the two|expected type|≟"),
+    "a tactic finds no way": re.compile(""),
+}
 
 
 class Failure(Exception):
@@ -50,8 +57,8 @@ class Run:
 
 @dataclasses.dataclass
 class Answer:
-    """A wrong answer of a public function, as an edit of `place` or as an edit of the merge gate; what refused it, and how
-    it showed when it was run."""
+    """A wrong answer of a public function, as an edit of `place` or as an edit of the merge gate; what it is run on, and what
+    refused it."""
 
     crate: str
     function: str = ""
@@ -62,14 +69,9 @@ class Answer:
     pairs: list = dataclasses.field(default_factory=list)
     run: Run | None = None
     refused: str = ""
-    shown: str = ""
 
     def __str__(self):
         return f"{self.crate}::{self.function}, {self.says}"
-
-    def told(self):
-        """The wrong answer in words, with the function that is changed."""
-        return self.says if self.place == self.function else f"{self.says} (in `{self.place}`)"
 
     def key(self):
         """What a wrong answer is remembered by: one that was changed has not been tried."""
@@ -194,14 +196,14 @@ def state_after(sheet, part):
 
 
 def run_of(words):
-    """The run that the words of an entry tell of, or None."""
+    """The run that the words of an entry name, or None."""
     if "sheet" in words:
         return Run(f"sheet {words['sheet']}", *known_sheets()[words["sheet"]])
     if "main" in words:
         return Run("a program", "main", words["main"], words["prints"] + "\n")
     if "state" in words:
-        sheet, told = words["state"].split("=>")
-        part, number = told.split()
+        sheet, after = words["state"].split("=>")
+        part, number = after.split()
         return Run(f"`{' '.join(sheet.split())}`, `{part}`", "main", state_after(lines_of(sheet), part), number + "\n")
     for kind in ("event", "bundle", "check"):
         if kind in words:
@@ -291,6 +293,18 @@ def counts(crate, answers):
     for answer in answers:
         found[answer.function].add((answer.place, *answer.pairs))
     return {name: len(own) for name, own in found.items()}
+
+
+# ---- What the prover says
+
+
+def cut(line):
+    return line if len(line) <= CUT else line[: CUT - 1] + "…"
+
+
+def meaning(error):
+    """What the prover's first error means."""
+    return next(words for words, mark in MEANINGS.items() if mark.search(error))
 
 
 # ---- A folder to change code in
