@@ -58,7 +58,7 @@ module _ (body : Body) where
       unfolding clauseText ranText
       refused-text = simp e
 
-    -- rule 18.7: where the sheet is refused at a line, the clause prints its `no` line and nothing else, alone or among others
+    -- rules 18.4, 18.7: where the sheet is refused at a line, the clause prints its `no` line and nothing else, also among others
     pub refused-costs-its-line :
         (room : ℕ) {number refusal : ℕ} → 1 ≤ number → sheetAnswered sheet room ≡ Refused number refusal
         → clauseText body ≡ refusalText number refusal

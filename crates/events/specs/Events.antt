@@ -72,7 +72,7 @@ inSize records ClearFree list = true
 
 -- ---- What is full: rule 4.7
 
--- levels, rule 5.4: at `r` and `s` a variable is an argument, any other term only at `s`
+-- rules 12.3, 13.1, 13.3 and 13.4: at `r` and `s` a variable is an argument, any other term only at `s`
 abbrev pub takesArgument : Level → Bool
 takesArgument Root = true
 takesArgument Shallow = true
