@@ -173,13 +173,14 @@ typedef struct FenomiraskRecord {
     uint32_t chunk;
     /* the register of a temporary, the slot of a permanent variable, 1 to 63; 0 where it has none */
     uint32_t place;
-    /* of a permanent variable: 0 its slot is given out (Done), 1 it waits to be (Pending); else 0 */
+    /* of a permanent variable: 0 Done, 1 Pending, that is not begun, freed, or waiting for the next arm; with a slot or
+     * with none; else 0 */
     uint32_t pending;
     /* of a temporary its safety, of a permanent variable that as an argument */
     FenomiraskSafety safety;
     /* of a permanent variable its safety as a subterm */
     FenomiraskSafety deep;
-    /* of a temporary: the permanent variable that it stands for, or FENOMIRASK_NO_VARIABLE */
+    /* of a temporary: the permanent variable that it was moved to, or FENOMIRASK_NO_VARIABLE */
     uint32_t to_perm_var_num;
     /* its occurrences, and the running count of them, 0 to 65,535 */
     uint32_t num_occurrences;
@@ -219,7 +220,7 @@ typedef struct FenomiraskBranchSets {
 typedef struct FenomiraskCounters {
     /* the counter of arguments, 1 to 64 */
     uint32_t arg_c;
-    /* the next new register and the next new slot, 1 to 64 */
+    /* the register from which a free one is searched, and the next new slot, 1 to 64 */
     uint32_t temp_lb;
     uint32_t perm_lb;
     /* the arguments of the head, 0 to 63; 0 from the first goal on */
@@ -254,7 +255,8 @@ typedef struct FenomiraskState {
     /* of each variable: registers that it should not take, and those of its conflicts; sets without 0 */
     uint64_t no_use[FENOMIRASK_VARIABLES];
     uint64_t conflict[FENOMIRASK_VARIABLES];
-    /* the temporary whose value stands in each register, or FENOMIRASK_NO_VARIABLE; the place 0 of no register too */
+    /* the temporary whose value stands in each register, or FENOMIRASK_NO_VARIABLE; entry 0, which is no register's,
+     * is tested too */
     uint32_t mappings[FENOMIRASK_REGISTERS];
     /* a list with its last at the end: registers, 1 to 63 */
     uint32_t freed_registers[FENOMIRASK_FREED_REGISTERS];
