@@ -14,7 +14,7 @@ MOST = 65_535  # the highest count of occurrences
 STEPS = 256  # of a check sheet
 INSTRUCTIONS = 4  # of a step
 REGISTERS = 63
-DEAR = 100  # lines of the dearest event: the Rust takes seconds for a full sheet of them
+SLOW = 100  # lines of the slowest event: the Rust takes seconds for a full sheet of them
 RECORDS = ("temp", "perm")
 PRINTING = 29_000  # bytes of a clause of `anon` that prints more than 65,536
 UNKNOWN = b"\n"  # a line that is refused
@@ -167,11 +167,11 @@ def records():
 
 
 def others():
-    """Full sheets of events that are no marks, by name; but few lines of the dearest event."""
+    """Full sheets of events that are no marks, by name; but few lines of the slowest event."""
     several = " ".join(str(v) for v in range(REGISTERS))
     return {
         "sets, 4 variables": filled([f"temp l1 {MOST} {uses(0, ['l1'] * 3)}"] * 4, ["sets"]),
-        "sets, 64 variables": text(restricting(["l1"], ["l1"]) + ["sets"] * DEAR),
+        "sets, 64 variables": text(restricting(["l1"], ["l1"]) + ["sets"] * SLOW),
         "head, 3 arguments": filled([f"temp l1 {MOST} -"] * 2, ["head 0 - 1"]),
         "head, 63 arguments": filled([f"temp l1 {MOST} -"] * REGISTERS, ["head " + several]),
         "args": filled([], ["args 7"]),
@@ -232,10 +232,10 @@ def checks():
     return both | {"calls, accepted": call_check()}
 
 
-# ---- Sheets among which the dearest is looked for
+# ---- Sheets among which the slowest is looked for
 
 
-def dear_events():
+def slow_events():
     """Full sheets by name, whose lines go through tables that are as full as they may be."""
     every, half, third = (range(REGISTERS // part) for part in (1, 2, 3))
     permanent, branches = [f"perm {MOST}"] * REGISTERS, ["open 4 2 3"] * BRANCHES
@@ -257,7 +257,7 @@ def dear_events():
     }
 
 
-def dear_checks():
+def slow_checks():
     """Check sheets of as many steps and instructions as there may be, by name."""
 
     def steps(first, others):
@@ -274,16 +274,16 @@ def dear_checks():
     }
 
 
-def dear_bundles(sheets):
-    """Full bundles of clauses, by name: those above, and some with clauses of the dearest event."""
-    dear, printing = dear_events()["sets, one chunk"], marks()["anon"]
+def slow_bundles(sheets):
+    """Full bundles of clauses, by name: those above, and some with clauses of the slowest event."""
+    slow, printing = slow_events()["sets, one chunk"], marks()["anon"]
     long, half = clause_part(printing, PRINTING), SHEET_BYTES // 2
     return {
         "clauses of 10 to 40 lines": fitting(small(sheets)),
         "empty clauses": empty_clauses(),
         "anon, one clause": [clause_part(printing)],
-        "sets, one clause": [clause_part(dear)],
-        "sets, two clauses": [clause_part(dear, half)] * 2,
-        "sets, refused at its end": [clause_part(dear, SHEET_BYTES - len(UNKNOWN)) + UNKNOWN],
-        "sets, in an answer longer than 65,536 bytes": [long, clause_part(dear, SHEET_BYTES - PRINTING)],
+        "sets, one clause": [clause_part(slow)],
+        "sets, two clauses": [clause_part(slow, half)] * 2,
+        "sets, refused at its end": [clause_part(slow, SHEET_BYTES - len(UNKNOWN)) + UNKNOWN],
+        "sets, in an answer longer than 65,536 bytes": [long, clause_part(slow, SHEET_BYTES - PRINTING)],
     }
