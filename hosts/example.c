@@ -13,15 +13,15 @@
 
 static const char *const refusals[] = {
     "", /* there is no refusal 0 */
-    "a word, field count or field form is unknown, or the LF is missing",
-    "lines stand in a forbidden order",
-    "a number is outside its size or names no variable",
+    "form: the line's word is unknown, it has too many or too few fields or one that is malformed, or its LF is missing",
+    "order: the line may not stand where it does",
+    "size: a number is too large or too small, or no record has the number of the variable",
     "the original would stop here",
     "no register up to 63 can be chosen",
     "no slot up to 63 is left",
-    "a table, list, queue, count or the sheet is full",
+    "full: the sheet, a list, a table or a count is at its limit",
     "a mark came where the original holds that none can",
-    "the output is longer than the room for it",
+    "room: the answer is longer than the room for it",
 };
 
 /* One byte more than a sheet may have: a longer one is read so far, and refused by the library. */

@@ -49,16 +49,16 @@ impl fmt::Display for Refusal {
     fn fmt(&self, f: &mut fmt::Formatter) -> fmt::Result {
         f.write_str(match self {
             Refusal::UnknownForm => {
-                "a word, field count or field form is unknown, or the LF is missing"
+                "form: the line's word is unknown, it has too many or too few fields or one that is malformed, or its LF is missing"
             }
-            Refusal::ForbiddenOrder => "lines stand in a forbidden order",
-            Refusal::OutsideSize => "a number is outside its size or names no variable",
+            Refusal::ForbiddenOrder => "order: the line may not stand where it does",
+            Refusal::OutsideSize => "size: a number is too large or too small, or no record has the number of the variable",
             Refusal::RustStops => "the original would stop here",
             Refusal::NoRegister => "no register up to 63 can be chosen",
             Refusal::NoSlot => "no slot up to 63 is left",
-            Refusal::Full => "a table, list, queue, count or the sheet is full",
+            Refusal::Full => "full: the sheet, a list, a table or a count is at its limit",
             Refusal::UnreachableMark => "a mark came where the original holds that none can",
-            Refusal::NoRoom => "the output is longer than the room for it",
+            Refusal::NoRoom => "room: the answer is longer than the room for it",
         })
     }
 }

@@ -45,24 +45,24 @@ extern "C" {
 
 /* The refusal numbers: rules 4.1 to 4.9. */
 enum FenomiraskRefusal {
-    /* a line's word, its count of fields or the form of one is none that a rule gives, or its LF is missing */
+    /* form: the line's word is unknown, it has too many or too few fields or one that is malformed, or its LF is missing */
     FENOMIRASK_UNKNOWN_FORM = 1,
-    /* a line may not stand behind those before it */
+    /* order: the line may not stand where it does */
     FENOMIRASK_FORBIDDEN_ORDER = 2,
-    /* a number is outside its size, or of a variable that has no record */
+    /* size: a number is too large or too small, or no record has the number of the variable */
     FENOMIRASK_OUTSIDE_SIZE = 3,
-    /* the original stops here: `arm` or `take` while no branch is open; `close` of more branches than are open, or of a
+    /* the original would stop here: `arm` or `take` while no branch is open; `close` of more branches than are open, or of a
      * temporary; an occurrence to be recorded past the last arm; `safe` of a variable that is Pending */
     FENOMIRASK_RUST_STOPS = 4,
     /* no register up to 63 can be chosen */
     FENOMIRASK_NO_REGISTER = 5,
-    /* the queue gives no slot, and slots up to 63 are given out */
+    /* no slot up to 63 is left */
     FENOMIRASK_NO_SLOT = 6,
-    /* the sheet, a list, a table, the queue or a count may not grow any further */
+    /* full: the sheet, a list, a table or a count is at its limit */
     FENOMIRASK_FULL = 7,
-    /* a mark meets a record that it cannot meet: never given, as is proved */
+    /* a mark came where the original holds that none can: never given, as is proved */
     FENOMIRASK_UNREACHABLE_MARK = 8,
-    /* the text is longer than the room; found last, so a sheet that is refused otherwise never meets it */
+    /* room: the answer is longer than the room for it; found last, so a sheet that is refused otherwise never meets it */
     FENOMIRASK_NO_ROOM = 9
 };
 
@@ -110,7 +110,7 @@ int64_t fenomirask_events(const uint8_t *sheet, size_t sheet_bytes, uint8_t *out
 int64_t fenomirask_check(const uint8_t *sheet, size_t sheet_bytes, uint8_t *out, size_t out_bytes);
 
 /* The answer to a bundle, in which a line `clause` begins each clause: for each in turn the answer of fenomirask_events to
- * its lines alone, the line behind `clause` being line 1. A clause that is refused is answered with one line in place of
+ * its lines alone, the line after `clause` being line 1. A clause that is refused is answered with one line in place of
  * that, `no`, the line and the refusal's number, with tabs between, and the next one goes on. An empty bundle is answered with
  * no byte, which is 0; a clause without lines with `end`.
  *
@@ -132,7 +132,7 @@ int64_t fenomirask_bundle(const uint8_t *sheet, size_t sheet_bytes, uint8_t *out
  *         answer = fenomirask_event(&state, line, line_bytes, out, sizeof out);
  *     answer = fenomirask_end(&state, out, sizeof out);
  *
- * The texts, one behind another, are the answer of fenomirask_events to the lines as a sheet, save that a sheet has at
+ * The texts, one after another, are the answer of fenomirask_events to the lines as a sheet, save that a sheet has at
  * most FENOMIRASK_SHEET_BYTES and a clause any number of lines. A refused line changes nothing, so the host may give
  * another instead. The state is the host's own memory: it may be copied to try a line and be put back, kept on disk, or
  * moved, and fenomirask_fresh makes a clause of it again.
@@ -209,7 +209,7 @@ typedef struct FenomiraskBranchRow {
 
 /* An open branch, its sets of variables. */
 typedef struct FenomiraskBranchSets {
-    /* those that have to be guarded behind it, as an argument and as a subterm */
+    /* those that have to be guarded after it, as an argument and as a subterm */
     uint64_t shallow_safety;
     uint64_t deep_safety;
     /* those that its current arm recorded; permanent variables alone */
@@ -260,7 +260,7 @@ typedef struct FenomiraskState {
     uint32_t mappings[FENOMIRASK_REGISTERS];
     /* a list with its last at the end: registers, 1 to 63 */
     uint32_t freed_registers[FENOMIRASK_FREED_REGISTERS];
-    /* a queue that goes round: behind entry 127 comes entry 0 */
+    /* a queue that goes round: after entry 127 comes entry 0 */
     FenomiraskFreedSlot freed_slots[FENOMIRASK_FREED_SLOTS];
     /* the open branches, the outermost at 0 */
     FenomiraskBranchRow branch_rows[FENOMIRASK_OPEN_BRANCHES];
@@ -353,7 +353,7 @@ void fenomirask_fresh(FenomiraskState *state);
  *
  * The refusals are, in this order, FENOMIRASK_OUTSIDE_SIZE on line 0, where the state is not valid; FENOMIRASK_FULL on
  * line 0, where the bytes are more than FENOMIRASK_SHEET_BYTES, LF or no LF; the line's own on line 1, of which
- * FENOMIRASK_UNKNOWN_FORM also where the LF is missing or anything stands behind it; and FENOMIRASK_NO_ROOM on line 0,
+ * FENOMIRASK_UNKNOWN_FORM also where the LF is missing or anything stands after it; and FENOMIRASK_NO_ROOM on line 0,
  * which never comes with FENOMIRASK_EVENT_ROOM bytes. A refusal leaves the state, as well as `out`, as it was. */
 int64_t fenomirask_event(FenomiraskState *state, const uint8_t *line, size_t line_bytes, uint8_t *out,
                          size_t out_bytes);
