@@ -7,8 +7,10 @@ on it a mark for the ratio of instructions.
 import dataclasses
 import html
 import math
+import re
 
 BOLD = "**"
+NUMBER = re.compile(r"\d{1,3}(,\d{3})*(\.\d+)?")
 RATIO_GOAL = 1.0  # the most that a ratio of times may be
 
 # Groups of bars: the heading, the table, the head of the ratios, and those of the instructions on both sides.
@@ -69,13 +71,14 @@ text {{ font: 13px sans-serif }} .strong {{ font-weight: bold }} .end {{ text-an
 # ---- Tables
 
 
-def cells(line):
+def cells_of(line):
     return [cell.strip() for cell in line.strip().strip("|").split("|")]
 
 
 def table_of(lines):
     """The table that stands in lines of a page."""
-    heads, _, *rows = map(cells, lines)
+    heads, *others = map(cells_of, lines)
+    rows = others[1:]  # a line of dashes stands before them
     return [dict(zip(heads, row, strict=True)) for row in rows]
 
 
@@ -87,8 +90,21 @@ def has_goal(cell):
     return cell.startswith(BOLD)
 
 
+def is_figure(cell):
+    bare = cell.strip(BOLD)
+    return cell in (bare, BOLD + bare + BOLD) and NUMBER.fullmatch(bare) is not None
+
+
 def figure(cell):
     return float(cell.strip(BOLD).replace(",", ""))
+
+
+def unrounded(cell):
+    """The least and the most that a figure may have been before it was rounded, to the nearest; one that has a goal may also
+    have been rounded up."""
+    _, _, places = cell.strip(BOLD).partition(".")
+    unit = 10 ** -len(places)
+    return figure(cell) - (unit if has_goal(cell) else unit / 2), figure(cell) + unit / 2
 
 
 # ---- Bars

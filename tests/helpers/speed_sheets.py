@@ -188,6 +188,11 @@ def others():
     }
 
 
+def by_word():
+    """The sheets of each word, by name."""
+    return marks() | others()
+
+
 # ---- Check sheets
 
 
