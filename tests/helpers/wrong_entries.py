@@ -25,14 +25,17 @@ import shutil
 ROOT = os.path.dirname(os.path.dirname(os.path.dirname(os.path.abspath(__file__))))
 CRATES = os.path.join(ROOT, "crates")
 ENTRIES = os.path.join(ROOT, "tests", "wrong")
-SHOWN = os.path.join(ROOT, "target", "wrong_runs")
+RUN_RESULTS = os.path.join(ROOT, "target", "wrong_runs")
 INSTANCES = os.path.join(ROOT, "tests", "wrong_laws")
 ENOUGH = 2  # wrong answers of a public function
 CUT = 240  # characters of what the prover says
+NAMING = 2  # lines of an entry that name it in a failure
 FUNCTION = re.compile(r'^( *)(pub )?(?:extern "C" )?fn (\w+)')
 IMPLEMENTATION = re.compile(r"^impl (\w+) \{")
+COMMENT_OR_SPACE = re.compile(r"//.*|\s")
 ROWS = re.compile(r'(-- (\d+)\n)?    (?:∷ )?(?:(event|check)Sheet "(.*)" "(.*)"|noUse|conflict)')
-WORDS = {"fn": "function", "in": "place", "must-fail": "must_fail"}
+WORDS = {"fn": "function", "in": "place", "must-fail": "must_fail", "says": "says", "program": "program"}
+OTHER_WORDS = ("old", "new", "sheet", "event", "bundle", "check", "state", "main", "prints")
 # What the prover's first error means. Only the first two name a fact that does not fit.
 MEANINGS = {
     "two sides that were computed differ": re.compile("computed as far as they go, the two"),
@@ -125,14 +128,21 @@ def constants(text):
     return {match[1]: Function(match[1], False, at, at + 1) for at, match in enumerate(found) if match}
 
 
+def bare(text):
+    """Code without comments and white space: texts that differ only in these are the same code."""
+    return COMMENT_OR_SPACE.sub("", text)
+
+
 def changed(text, answer):
     """The crate's text with the wrong answer in it."""
-    function = functions(text).get(answer.place) or constants(text)[answer.place]
+    function = functions(text).get(answer.place) or constants(text).get(answer.place)
+    if not function:
+        raise Failure(f"no function and no constant: {answer.place}")
     lines = text.split("\n")
     body = "\n".join(lines[function.first : function.end])
     for old, new in answer.pairs:
         if body.count(old) != 1:
-            raise Failure(f"{answer}: not once in {answer.place}: {old}")
+            raise Failure(f"not once in {answer.place}: {old}")
         body = body.replace(old, new)
     return "\n".join(lines[: function.first] + [body] + lines[function.end :])
 
@@ -149,18 +159,43 @@ def crates():
     ]
 
 
+def refuse_unfit(words):
+    """Refuses the words of a command that name a crate without public functions, or any crate beside --count."""
+    known = crates()
+    for name in words.crates:
+        if name not in known:
+            raise Failure(f"{name}: no crate with public functions")
+    if words.count and words.crates:
+        raise Failure("--count counts every crate: none can be named beside it")
+
+
 # ---- The entries
+
+
+def each_entry(path, read_one):
+    """What `read_one` makes of each entry of a file; what is wrong with one is said with the file and the entry's name."""
+    found = []
+    for entry in re.split(r"\n\n+", read(path).strip("\n")):
+        try:
+            if re.search("^[^#]", entry, re.M):
+                found.append(read_one(entry))
+        except Failure as failure:
+            name = " / ".join(entry.split("\n")[:NAMING])
+            raise Failure(f"{os.path.relpath(path, ROOT)}, `{name}`: {failure}") from None
+    return found
 
 
 def fields(entry):
     """The words of an entry with their texts; indented lines belong to the word above."""
     found = []
     for line in entry.split("\n"):
-        if line.startswith("    "):
+        if line.startswith("    ") and found:
             found[-1][1].append(line)
-        elif line and not line.startswith("#"):
-            word, text = line.split(" ", 1) if line.startswith("fn ") else line.split(":", 1)
-            found.append((word, [text[1:] if word != "fn" else text] if text else []))
+        elif not line.startswith("#"):
+            word, mark, text = line.partition(" " if line.startswith("fn ") else ":")
+            if not word.strip() or not mark or line.startswith(" "):
+                raise Failure(f"a line without its word: {line}")
+            found.append((word, [text.removeprefix(" ")] if text else []))
     return [(word, "\n".join(texts)) for word, texts in found]
 
 
@@ -195,35 +230,54 @@ def state_after(sheet, part):
     return "\n".join([*begun, *calls, f"    show(state.{part} as u32);"])
 
 
+def sheet_and_due(text):
+    """A sheet and what is right for it, which stands behind `=>`."""
+    sheet, mark, due = text.partition("=>")
+    if not mark:
+        raise Failure(f"no `=>`: {text}")
+    return sheet, due
+
+
 def run_of(words):
     """The run that the words of an entry name, or None."""
     if "sheet" in words:
+        if words["sheet"] not in known_sheets():
+            raise Failure(f"no known sheet: {words['sheet']}")
         return Run(f"sheet {words['sheet']}", *known_sheets()[words["sheet"]])
     if "main" in words:
+        if "prints" not in words:
+            raise Failure("`main:` without `prints:`")
         return Run("a program", "main", words["main"], words["prints"] + "\n")
     if "state" in words:
-        sheet, after = words["state"].split("=>")
-        part, number = after.split()
+        sheet, due = sheet_and_due(words["state"])
+        part, _, number = due.strip().partition(" ")
+        if not number:
+            raise Failure(f"not a part of the state and its number: {due}")
         return Run(f"`{' '.join(sheet.split())}`, `{part}`", "main", state_after(lines_of(sheet), part), number + "\n")
     for kind in ("event", "bundle", "check"):
         if kind in words:
-            sheet, due = words[kind].split("=>")
+            sheet, due = sheet_and_due(words[kind])
             return Run(f"`{' '.join(sheet.split())}`", kind, lines_of(sheet), lines_of(due))
     return None
 
 
+def pairs_of(words):
+    """The texts that are changed, each with what takes its place."""
+    olds, news = ([text for word, text in words if word == side] for side in ("old", "new"))
+    if len(olds) != len(news):
+        raise Failure("`old:` without `new:`, or `new:` without `old:`")
+    return list(zip(olds, news))
+
+
 def answer_of(crate, entry):
-    answer, olds, words = Answer(crate), [], fields(entry)
+    answer, words = Answer(crate), fields(entry)
     for word, text in words:
-        if word == "old":
-            olds.append(text)
-        elif word == "new":
-            answer.pairs.append((olds.pop(), text))
-        elif word in ("says", "program", *WORDS):
-            setattr(answer, WORDS.get(word, word), text)
-        elif word not in ("sheet", "event", "bundle", "check", "state", "main", "prints"):
-            raise Failure(f"{crate}: `{word}` is no word of an entry")
+        if word in WORDS:
+            setattr(answer, WORDS[word], text)
+        elif word not in OTHER_WORDS:
+            raise Failure(f"`{word}` is no word of an entry")
     answer.place = answer.place or answer.function
+    answer.pairs = pairs_of(words)
     answer.run = run_of(dict(words))
     return answer
 
@@ -239,59 +293,74 @@ def edits():
     return found
 
 
+def instance_of(entry):
+    words = dict(fields(entry))
+    if not {"edit", "false of"} <= set(words):
+        raise Failure("no `edit:` or no `false of:`")
+    return words["edit"], (" ".join(words["false of"].split()), run_of(words))
+
+
 def instances():
     """Of each edit of a definition or a theorem an instance of which it is false, and the sheet that shows it, if one does."""
-    entries = [dict(fields(entry)) for entry in re.split(r"\n\n+", read(INSTANCES).strip())]
-    return {words["edit"]: (" ".join(words["false of"].split()), run_of(words)) for words in entries if words}
+    return dict(each_entry(INSTANCES, instance_of))
 
 
 def gate_edit(answer):
     """Reads the pairs of the merge gate's edit, so that they can be held to the function that the entry names."""
     path = os.path.join(CRATES, answer.crate, "must-fail", answer.must_fail + ".edit")
-    texts = [line.split(": ", 1) for line in read(path).strip().split("\n")]
-    if texts[0] != ["file", "src/lib.rt"]:
-        raise Failure(f"{answer.crate}/{answer.must_fail} changes no code")
-    news = [text for word, text in texts if word == "new"]
-    return list(zip([text for word, text in texts if word == "old"], news))
+    if not os.path.exists(path):
+        raise Failure(f"no edit of the merge gate: {answer.must_fail}")
+    words = [line.partition(": ")[::2] for line in read(path).strip().split("\n")]
+    if words[0] != ("file", "src/lib.rt"):
+        raise Failure(f"{answer.must_fail} changes no code")
+    return pairs_of(words)
+
+
+def held(answer, text):
+    """The wrong answer, held to the crate's text as it stands."""
+    function = functions(text).get(answer.function)
+    if not function or not function.public:
+        raise Failure(f"no public function: {answer.function}")
+    if answer.must_fail:
+        answer.pairs = gate_edit(answer)
+        answer.refused = f"must-fail edit `{answer.must_fail}`"
+    if not answer.says or bare(changed(text, answer)) == bare(text):
+        raise Failure("changes or says nothing")
+    return answer
 
 
 def answers_of(crate):
     """The wrong answers of a crate, each held to the code as it stands; none where the crate has no file of them."""
-    if not os.path.exists(os.path.join(ENTRIES, crate)):
+    path = os.path.join(ENTRIES, crate)
+    if not os.path.exists(path):
         return []
     text = read(os.path.join(ROOT, source(crate)))
-    known = functions(text)
-    entries = re.split(r"\n\n+", read(os.path.join(ENTRIES, crate)).strip())
-    answers = [answer_of(crate, entry) for entry in entries if fields(entry)]
-    for answer in answers:
-        if answer.function not in known or not known[answer.function].public:
-            raise Failure(f"{crate}::{answer.function} is no public function")
-        if answer.must_fail:
-            answer.pairs = gate_edit(answer)
-            changed(text, answer)
-            answer.refused = f"must-fail edit `{answer.must_fail}`"
-        elif changed(text, answer) == text or not answer.says:
-            raise Failure(f"{crate}::{answer.function}: an entry that changes or says nothing")
-    return answers
+    return each_entry(path, lambda entry: held(answer_of(crate, entry), text))
 
 
 def all_answers():
-    """The wrong answers of every crate with public functions, and what is wrong with the entries of those that have none."""
-    found, failures = {}, []
-    for crate in crates():
+    """The wrong answers of every crate with public functions, and what is wrong with the files of tests/wrong."""
+    found = dict.fromkeys(crates(), [])
+    failures = [f"tests/wrong/{name}: no crate with public functions" for name in sorted({*os.listdir(ENTRIES)} - {*found})]
+    for crate in found:
         try:
             found[crate] = answers_of(crate)
         except Failure as failure:
-            found[crate] = []
             failures.append(str(failure))
     return found, failures
 
 
+def in_one_list(answers):
+    """The wrong answers of all crates."""
+    return [answer for own in answers.values() for answer in own]
+
+
 def counts(crate, answers):
-    """Of each public function how many wrong answers there are that differ from each other."""
-    found = {name: set() for name, known in functions(read(os.path.join(ROOT, source(crate)))).items() if known.public}
+    """Of each public function how many wrong answers there are that make different code."""
+    text = read(os.path.join(ROOT, source(crate)))
+    found = {name: set() for name, known in functions(text).items() if known.public}
     for answer in answers:
-        found[answer.function].add((answer.place, *answer.pairs))
+        found[answer.function].add(bare(changed(text, answer)))
     return {name: len(own) for name, own in found.items()}
 
 
