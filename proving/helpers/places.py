@@ -24,6 +24,7 @@ NEED = re.compile(r"^ *Need-(\S+) =\s*\(c : (\S+?)\)", re.M)
 BEFORE, ARGS, OWN = "before", "args", "·own"
 # What a call leaves, besides its lifetimes.
 OF_A_CALL = ["result", "ensures", "last", "kept", "ok"]
+NO_PLACES = "the check makes no places of it"
 
 
 @dataclasses.dataclass
@@ -105,9 +106,12 @@ def shape(text):
 
 def shapes(crate, functions):
     """The functions with their shapes, made anew from the code as it stands; a proof need not fit it. A function whose proof
-    follows the code by hand has none, nor have functions that call each other."""
+    follows the code by hand has none, nor have functions that call each other. Where none is made, what the check says of it is
+    printed."""
     with tempfile.TemporaryDirectory() as folder:
-        checked(crate, "--generated", folder)
+        said = checked(crate, "--generated", folder)
+        if re.search(r"^generated=0$", said, re.M):
+            print(said, end="", file=sys.stderr)
         for function in functions:
             made = os.path.join(folder, f"Rattle.{crate}.proofs", "proofs", function)
             files = glob.glob(os.path.join(glob.escape(made), "Lts*.antt"))
