@@ -100,11 +100,10 @@ def figure(cell):
 
 
 def unrounded(cell):
-    """The least and the most that a figure may have been before it was rounded, to the nearest; one that has a goal may also
-    have been rounded up."""
+    """The least and the most that a figure may have been before it was rounded: up where it has a goal, else to the nearest."""
     _, _, places = cell.strip(BOLD).partition(".")
     unit = 10 ** -len(places)
-    return figure(cell) - (unit if has_goal(cell) else unit / 2), figure(cell) + unit / 2
+    return (figure(cell) - unit, figure(cell)) if has_goal(cell) else (figure(cell) - unit / 2, figure(cell) + unit / 2)
 
 
 # ---- Bars
