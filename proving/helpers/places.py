@@ -11,6 +11,7 @@ FUNCTION is everywhere the folder of a function's proof, seen from the crate's f
 import dataclasses
 import glob
 import os
+import pathlib
 import re
 import subprocess
 import sys
@@ -65,14 +66,12 @@ def with_proof(crate):
 
 
 def read(path):
-    with open(path, encoding="utf-8") as file:
-        return file.read()
+    return pathlib.Path(path).read_text(encoding="utf-8")
 
 
 def write(path, text):
-    os.makedirs(os.path.dirname(path), exist_ok=True)
-    with open(path, "w", encoding="utf-8") as file:
-        file.write(text)
+    pathlib.Path(path).parent.mkdir(parents=True, exist_ok=True)
+    pathlib.Path(path).write_text(text, encoding="utf-8")
 
 
 def checked(crate, *words):
