@@ -1,207 +1,59 @@
--- One counter changed, the others kept.
+-- One counter changed, the others kept. A counter's number is its place in the record, from 0.
 use Prim.Native.Nat.{ℕ}
+use lib.Dec.{eqb}
+use Rattle.notation.specs.Choice.{if_then_else_}
 use Rattle.allocator_state.specs.declared.Counters.{Counters}
 
-abbrev pub withArgC : ℕ → Counters → Counters
-withArgC n c =
+-- the counter of that number becomes n
+abbrev pub withCounter : ℕ → ℕ → Counters → Counters
+withCounter counter n c =
     record {
-      «arg_c» = n;
-      «temp_lb» = c .«temp_lb»;
-      «perm_lb» = c .«perm_lb»;
-      arity = c .arity;
-      «in_tail_position» = c .«in_tail_position»;
-      records = c .records;
-      «events_seen» = c .«events_seen»;
-      «freed_registers» = c .«freed_registers»;
-      «first_freed_slot» = c .«first_freed_slot»;
-      «freed_slots» = c .«freed_slots»;
-      «open_branches» = c .«open_branches»;
-      «in_use» = c .«in_use»;
+      «arg_c» = if eqb counter 0 then n else c .«arg_c»;
+      «temp_lb» = if eqb counter 1 then n else c .«temp_lb»;
+      «perm_lb» = if eqb counter 2 then n else c .«perm_lb»;
+      arity = if eqb counter 3 then n else c .arity;
+      «in_tail_position» = if eqb counter 4 then n else c .«in_tail_position»;
+      records = if eqb counter 5 then n else c .records;
+      «events_seen» = if eqb counter 6 then n else c .«events_seen»;
+      «freed_registers» = if eqb counter 7 then n else c .«freed_registers»;
+      «first_freed_slot» = if eqb counter 8 then n else c .«first_freed_slot»;
+      «freed_slots» = if eqb counter 9 then n else c .«freed_slots»;
+      «open_branches» = if eqb counter 10 then n else c .«open_branches»;
+      «in_use» = if eqb counter 11 then n else c .«in_use»;
     }
+
+abbrev pub withArgC : ℕ → Counters → Counters
+withArgC = withCounter 0
 
 abbrev pub withTempLb : ℕ → Counters → Counters
-withTempLb n c =
-    record {
-      «arg_c» = c .«arg_c»;
-      «temp_lb» = n;
-      «perm_lb» = c .«perm_lb»;
-      arity = c .arity;
-      «in_tail_position» = c .«in_tail_position»;
-      records = c .records;
-      «events_seen» = c .«events_seen»;
-      «freed_registers» = c .«freed_registers»;
-      «first_freed_slot» = c .«first_freed_slot»;
-      «freed_slots» = c .«freed_slots»;
-      «open_branches» = c .«open_branches»;
-      «in_use» = c .«in_use»;
-    }
+withTempLb = withCounter 1
 
 abbrev pub withPermLb : ℕ → Counters → Counters
-withPermLb n c =
-    record {
-      «arg_c» = c .«arg_c»;
-      «temp_lb» = c .«temp_lb»;
-      «perm_lb» = n;
-      arity = c .arity;
-      «in_tail_position» = c .«in_tail_position»;
-      records = c .records;
-      «events_seen» = c .«events_seen»;
-      «freed_registers» = c .«freed_registers»;
-      «first_freed_slot» = c .«first_freed_slot»;
-      «freed_slots» = c .«freed_slots»;
-      «open_branches» = c .«open_branches»;
-      «in_use» = c .«in_use»;
-    }
+withPermLb = withCounter 2
 
 abbrev pub withArity : ℕ → Counters → Counters
-withArity n c =
-    record {
-      «arg_c» = c .«arg_c»;
-      «temp_lb» = c .«temp_lb»;
-      «perm_lb» = c .«perm_lb»;
-      arity = n;
-      «in_tail_position» = c .«in_tail_position»;
-      records = c .records;
-      «events_seen» = c .«events_seen»;
-      «freed_registers» = c .«freed_registers»;
-      «first_freed_slot» = c .«first_freed_slot»;
-      «freed_slots» = c .«freed_slots»;
-      «open_branches» = c .«open_branches»;
-      «in_use» = c .«in_use»;
-    }
+withArity = withCounter 3
 
 abbrev pub withInTailPosition : ℕ → Counters → Counters
-withInTailPosition n c =
-    record {
-      «arg_c» = c .«arg_c»;
-      «temp_lb» = c .«temp_lb»;
-      «perm_lb» = c .«perm_lb»;
-      arity = c .arity;
-      «in_tail_position» = n;
-      records = c .records;
-      «events_seen» = c .«events_seen»;
-      «freed_registers» = c .«freed_registers»;
-      «first_freed_slot» = c .«first_freed_slot»;
-      «freed_slots» = c .«freed_slots»;
-      «open_branches» = c .«open_branches»;
-      «in_use» = c .«in_use»;
-    }
+withInTailPosition = withCounter 4
 
 abbrev pub withRecords : ℕ → Counters → Counters
-withRecords n c =
-    record {
-      «arg_c» = c .«arg_c»;
-      «temp_lb» = c .«temp_lb»;
-      «perm_lb» = c .«perm_lb»;
-      arity = c .arity;
-      «in_tail_position» = c .«in_tail_position»;
-      records = n;
-      «events_seen» = c .«events_seen»;
-      «freed_registers» = c .«freed_registers»;
-      «first_freed_slot» = c .«first_freed_slot»;
-      «freed_slots» = c .«freed_slots»;
-      «open_branches» = c .«open_branches»;
-      «in_use» = c .«in_use»;
-    }
+withRecords = withCounter 5
 
 abbrev pub withEventsSeen : ℕ → Counters → Counters
-withEventsSeen n c =
-    record {
-      «arg_c» = c .«arg_c»;
-      «temp_lb» = c .«temp_lb»;
-      «perm_lb» = c .«perm_lb»;
-      arity = c .arity;
-      «in_tail_position» = c .«in_tail_position»;
-      records = c .records;
-      «events_seen» = n;
-      «freed_registers» = c .«freed_registers»;
-      «first_freed_slot» = c .«first_freed_slot»;
-      «freed_slots» = c .«freed_slots»;
-      «open_branches» = c .«open_branches»;
-      «in_use» = c .«in_use»;
-    }
+withEventsSeen = withCounter 6
 
 abbrev pub withFreedRegisters : ℕ → Counters → Counters
-withFreedRegisters n c =
-    record {
-      «arg_c» = c .«arg_c»;
-      «temp_lb» = c .«temp_lb»;
-      «perm_lb» = c .«perm_lb»;
-      arity = c .arity;
-      «in_tail_position» = c .«in_tail_position»;
-      records = c .records;
-      «events_seen» = c .«events_seen»;
-      «freed_registers» = n;
-      «first_freed_slot» = c .«first_freed_slot»;
-      «freed_slots» = c .«freed_slots»;
-      «open_branches» = c .«open_branches»;
-      «in_use» = c .«in_use»;
-    }
+withFreedRegisters = withCounter 7
 
 abbrev pub withFirstFreedSlot : ℕ → Counters → Counters
-withFirstFreedSlot n c =
-    record {
-      «arg_c» = c .«arg_c»;
-      «temp_lb» = c .«temp_lb»;
-      «perm_lb» = c .«perm_lb»;
-      arity = c .arity;
-      «in_tail_position» = c .«in_tail_position»;
-      records = c .records;
-      «events_seen» = c .«events_seen»;
-      «freed_registers» = c .«freed_registers»;
-      «first_freed_slot» = n;
-      «freed_slots» = c .«freed_slots»;
-      «open_branches» = c .«open_branches»;
-      «in_use» = c .«in_use»;
-    }
+withFirstFreedSlot = withCounter 8
 
 abbrev pub withFreedSlots : ℕ → Counters → Counters
-withFreedSlots n c =
-    record {
-      «arg_c» = c .«arg_c»;
-      «temp_lb» = c .«temp_lb»;
-      «perm_lb» = c .«perm_lb»;
-      arity = c .arity;
-      «in_tail_position» = c .«in_tail_position»;
-      records = c .records;
-      «events_seen» = c .«events_seen»;
-      «freed_registers» = c .«freed_registers»;
-      «first_freed_slot» = c .«first_freed_slot»;
-      «freed_slots» = n;
-      «open_branches» = c .«open_branches»;
-      «in_use» = c .«in_use»;
-    }
+withFreedSlots = withCounter 9
 
 abbrev pub withOpenBranches : ℕ → Counters → Counters
-withOpenBranches n c =
-    record {
-      «arg_c» = c .«arg_c»;
-      «temp_lb» = c .«temp_lb»;
-      «perm_lb» = c .«perm_lb»;
-      arity = c .arity;
-      «in_tail_position» = c .«in_tail_position»;
-      records = c .records;
-      «events_seen» = c .«events_seen»;
-      «freed_registers» = c .«freed_registers»;
-      «first_freed_slot» = c .«first_freed_slot»;
-      «freed_slots» = c .«freed_slots»;
-      «open_branches» = n;
-      «in_use» = c .«in_use»;
-    }
+withOpenBranches = withCounter 10
 
 abbrev pub withInUse : ℕ → Counters → Counters
-withInUse n c =
-    record {
-      «arg_c» = c .«arg_c»;
-      «temp_lb» = c .«temp_lb»;
-      «perm_lb» = c .«perm_lb»;
-      arity = c .arity;
-      «in_tail_position» = c .«in_tail_position»;
-      records = c .records;
-      «events_seen» = c .«events_seen»;
-      «freed_registers» = c .«freed_registers»;
-      «first_freed_slot» = c .«first_freed_slot»;
-      «freed_slots» = c .«freed_slots»;
-      «open_branches» = c .«open_branches»;
-      «in_use» = n;
-    }
+withInUse = withCounter 11

@@ -1,7 +1,10 @@
 // The allocator's numbers that are no table.
 ghost use mathlib.Core.Path.{_≡_};
+ghost use Rattle.bit_set.specs.BitSet.{inserted};
+ghost use Rattle.registers.specs.Registers.{numberOfPlace};
 ghost use Rattle.allocator_state.specs.State.{freshCounters, counterAfter};
 use bit_set::BitSet;
+use registers::RegType;
 use sizes::LAST_COUNTER;
 
 // The numbers that are no table. The Rust's fields keep their names; the counts say how much of a table counts.
@@ -50,5 +53,15 @@ pub fn counter_after(n: u32) -> u32
         n + 1
     } else {
         LAST_COUNTER
+    }
+}
+
+// The registers in use with a place's number among them, a slot's too.
+pub fn used_by(in_use: BitSet, place: RegType) -> BitSet
+    ensures { λ r. ⌜ r ≡ inserted «in_use» (numberOfPlace place) ⌝ }
+{
+    match place {
+        RegType::Temp(r) => bit_set::insert(in_use, r),
+        RegType::Perm(slot) => bit_set::insert(in_use, slot),
     }
 }

@@ -8,6 +8,7 @@ use Rattle.code_deque.specs.declared.CodeDeque.{CodeDeque}
 use Rattle.code_deque.specs.declared.CodeDeque.the-variants.{Empty, One, Two, Three}
 use Rattle.debray_allocator.specs.declared.At.{At}
 use Rattle.debray_allocator.specs.declared.At.the-variants.{Nowhere, Place}
+use Rattle.debray_allocator.specs.declared.Answer.{Answer}
 
 -- rule 16.2: the instructions of an event, three at most, in order
 abbrev pub codeText : CodeDeque → List ℕ
@@ -21,8 +22,13 @@ abbrev pub placeText : At → List ℕ
 placeText Nowhere = []
 placeText (Place place) = atText place
 
+-- rule 16.2: so an event prints its instructions, then the line of its place, and nothing where it has neither
 unfoldable pub answerText : CodeDeque → At → List ℕ
 answerText code place = codeText code ++ placeText place
+
+-- the same of a whole answer: what lines and sheets print is said by this alone
+abbrev pub textOf : Answer → List ℕ
+textOf a = answerText (a .code) (a .at)
 
 -- rule 16.4
 unfoldable pub endText : ℕ → ℕ → List ℕ

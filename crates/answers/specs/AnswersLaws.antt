@@ -1,6 +1,6 @@
 -- What an event prints is short.
 use Prim.Native.Nat.{ℕ, zero, suc, _+_, _≤_, _/_, _%_, zero-le}
-use mathlib.Core.Path.{_≡_, ap₂, subst, sym, _∙_}
+use mathlib.Core.Path.{_≡_, ap₂, subst, _∙_}
 use mathlib.Core.Bool.{true, false}
 use mathlib.Core.List.{List, [], _∷_, _++_}
 use native.Mathlib.Omega.{arith}
@@ -23,9 +23,10 @@ use Rattle.code_deque.specs.declared.CodeDeque.{CodeDeque}
 use Rattle.code_deque.specs.declared.CodeDeque.the-variants.{Empty, One, Two, Three}
 use Rattle.debray_allocator.specs.declared.At.{At}
 use Rattle.debray_allocator.specs.declared.At.the-variants.{Nowhere, Place}
+use Rattle.debray_allocator.specs.declared.Answer.{Answer}
 use Rattle.printing.specs.Printing.{printed, placeAfter, Put}
 use Rattle.answers.specs.Adding.{Added}
-use Rattle.answers.specs.Answers.{codeText, placeText, answerText, endText}
+use Rattle.answers.specs.Answers.{codeText, placeText, answerText, textOf, endText}
 
 written-length : (digits n : ℕ) → length (written digits n) ≤ digits
 unfolding written
@@ -112,6 +113,9 @@ pub answer-short : (code : CodeDeque) (place : At) → length (answerText code p
 unfolding answerText
 answer-short code place =
     omega (arith, length-append (codeText code) (placeText place), code-length code, place-length place)
+
+pub text-short : (a : Answer) → length (textOf a) ≤ longest
+text-short a = answer-short (a .code) (a .at)
 
 pub end-short : (maxRegAllocated numPermVars : ℕ) → length (endText maxRegAllocated numPermVars) ≤ longest
 unfolding endText line joined

@@ -8,12 +8,11 @@ use native.Mathlib.Omega.{arith}
 use lib.Dec.{eqb, leb}
 use borrow.Author.Tests.{leb-true, leb-false, eq-eqb, ne-eqb}
 use Rattle.notation.specs.Choice.{if_then_else_}
-use Rattle.sizes.specs.Sizes.{registers}
-use Rattle.bit_set.specs.BitSet.{Set, members, has, inserted, removed}
+use Rattle.bit_set.specs.BitSet.{lastMember, members, Set, has, inserted, removed}
 use Rattle.bit_set.specs.BitSetLaws.{has-empty, has-inserted, has-removed, inserted-outside, set-empty, set-inserted, set-removed, same-members}
 use Rattle.bit_set.specs.Collected.{collectedBelow, collected}
 
-has-step : (s n q : ℕ) (t : Bool) → n ≤ registers → has (if t then inserted s n else s) q ≡ (has s q || (t && eqb q n))
+has-step : (s n q : ℕ) (t : Bool) → n ≤ lastMember → has (if t then inserted s n else s) q ≡ (has s q || (t && eqb q n))
 has-step s n q t m =
     elim t as (λ t. has (if t then inserted s n else s) q ≡ (has s q || (t && eqb q n)))
     [ true ↦ has-inserted s n q m | false ↦ sym (or-false (has s q)) ]
@@ -54,24 +53,24 @@ module _ (test : ℕ → Bool) where
   unfolding collected
   set-collected = set-below members
 
-  pub has-collected : (q : ℕ) → q ≤ registers → has (collected test) q ≡ test q
+  pub has-collected : (q : ℕ) → q ≤ lastMember → has (collected test) q ≡ test q
   unfolding collected
   has-collected q h = some-below members q (omega arith) (omega arith)
 
 -- a set is collected by a test that says what its members are
-pub collected-is : (s : ℕ) (test : ℕ → Bool) → Set s → ((q : ℕ) → q ≤ registers → has s q ≡ test q) → s ≡ collected test
+pub collected-is : (s : ℕ) (test : ℕ → Bool) → Set s → ((q : ℕ) → q ≤ lastMember → has s q ≡ test q) → s ≡ collected test
 collected-is s test hs e =
     same-members s (collected test) hs (set-collected test) (λ q h. e q h ∙ sym (has-collected test q h))
 
-pub collected-same : (f g : ℕ → Bool) → ((q : ℕ) → q ≤ registers → f q ≡ g q) → collected f ≡ collected g
+pub collected-same : (f g : ℕ → Bool) → ((q : ℕ) → q ≤ lastMember → f q ≡ g q) → collected f ≡ collected g
 collected-same f g e = collected-is (collected f) g (set-collected f) (λ q h. has-collected f q h ∙ e q h)
 
--- a number past the last register changes no member
-has-inserted-total : (s n q : ℕ) → q ≤ registers → has (inserted s n) q ≡ (has s q || eqb q n)
+-- a number past the last changes no member
+has-inserted-total : (s n q : ℕ) → q ≤ lastMember → has (inserted s n) q ≡ (has s q || eqb q n)
 has-inserted-total s n q h =
-    elim (leb n registers) as (λ t. leb n registers ≡ t → has (inserted s n) q ≡ (has s q || eqb q n)) [
-      | true ↦ λ e. has-inserted s n q (leb-true n registers e)
-      | false ↦ λ e. (let l = leb-false n registers e in
+    elim (leb n lastMember) as (λ t. leb n lastMember ≡ t → has (inserted s n) q ≡ (has s q || eqb q n)) [
+      | true ↦ λ e. has-inserted s n q (leb-true n lastMember e)
+      | false ↦ λ e. (let l = leb-false n lastMember e in
           let other : q ≡ n → ⊥ = λ e. omega (arith, e) in
           simp (inserted-outside s n l, ne-eqb q n other, or-false))
     ]

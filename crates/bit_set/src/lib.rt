@@ -1,11 +1,12 @@
-// Sets of registers and of variables: one 64-bit word, a bit a member.
+// Sets of numbers from 0 to 63, registers or variables: one 64-bit word, a bit a member.
 ghost use mathlib.Core.Path.{_≡_};
 ghost use Prim.Native.Nat.{_^_, _≤_};
-ghost use Rattle.sizes.specs.Sizes.{registers};
-ghost use Rattle.bit_set.specs.BitSet.{has, emptySet, inserted, removed, union};
-use sizes::LAST_REGISTER;
+ghost use Rattle.bit_set.specs.BitSet.{lastMember, has, emptySet, inserted, removed, union};
 
 pub type BitSet = u64;
+
+// The last number that the word has a bit for.
+const LAST_MEMBER: u32 = 63;
 
 // The set with no member.
 pub fn empty() -> BitSet
@@ -16,7 +17,7 @@ pub fn empty() -> BitSet
 
 // The word whose one member is `n`.
 fn single(n: u32) -> BitSet
-    requires { ⌜ n ≤ registers ⌝ }
+    requires { ⌜ n ≤ lastMember ⌝ }
     ensures { λ r. ⌜ r ≡ 2 ^ n ⌝ }
 {
     1u64 << n
@@ -26,7 +27,7 @@ fn single(n: u32) -> BitSet
 pub fn contains(s: BitSet, n: u32) -> bool
     ensures { λ r. ⌜ r ≡ has s n ⌝ }
 {
-    if n <= LAST_REGISTER {
+    if n <= LAST_MEMBER {
         s & single(n) != 0
     } else {
         false
@@ -37,18 +38,14 @@ pub fn contains(s: BitSet, n: u32) -> bool
 pub fn insert(s: BitSet, n: u32) -> BitSet
     ensures { λ r. ⌜ r ≡ inserted s n ⌝ }
 {
-    if n <= LAST_REGISTER { s | single(n) } else { s }
+    if n <= LAST_MEMBER { s | single(n) } else { s }
 }
 
 // `s` without `n`.
 pub fn remove(s: BitSet, n: u32) -> BitSet
     ensures { λ r. ⌜ r ≡ removed s n ⌝ }
 {
-    if n <= LAST_REGISTER {
-        s & !single(n)
-    } else {
-        s
-    }
+    if n <= LAST_MEMBER { s & !single(n) } else { s }
 }
 
 // The members of `s` and those of `t`.

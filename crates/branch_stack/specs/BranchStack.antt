@@ -10,12 +10,20 @@ use Rattle.forms.specs.declared.Branch.{Branch}
 use Rattle.forms.specs.Forms.{defaultBranch}
 use Rattle.branch_stack.specs.declared.BranchOccurrences.{BranchOccurrences}
 
--- four numbers and three sets a level; a level past the table is taken modulo its rows
+-- start and span, the arms, the index of the current one
+abbrev pub numbersPerBranch : ℕ
+numbersPerBranch = 4
+
+-- the variables to be guarded as arguments, to be guarded as subterms, recorded
+abbrev pub setsPerBranch : ℕ
+setsPerBranch = 3
+
+-- a level past the table is taken modulo its rows
 abbrev pub rowStart : ℕ → ℕ
-rowStart level = level % openBranches * 4
+rowStart level = level % openBranches * numbersPerBranch
 
 abbrev pub setStart : ℕ → ℕ
-setStart level = level % openBranches * 3
+setStart level = level % openBranches * setsPerBranch
 
 abbrev pub branchAt : List ℕ → ℕ → Branch
 branchAt rows level = record { start = getD rows (rowStart level) 0; span = getD rows (rowStart level + 1) 0 }

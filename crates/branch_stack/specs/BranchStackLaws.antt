@@ -9,21 +9,21 @@ use borrow.Author.Tests.{ne-eqb}
 use Rattle.notation.specs.ListLaws.{cells-put-same, cells-put-other, length-put}
 use Rattle.sizes.specs.Sizes.{openBranches}
 use Rattle.branch_stack.specs.declared.BranchOccurrences.{BranchOccurrences}
-use Rattle.branch_stack.specs.BranchStack.{rowStart, setStart, occurrencesAt, rowsPut, setsPut, currentBranch}
+use Rattle.branch_stack.specs.BranchStack.{numbersPerBranch, setsPerBranch, rowStart, setStart, occurrencesAt, rowsPut, setsPut, currentBranch}
 
--- the four numbers and the three sets of a level: tables of that level alone
+-- the numbers and the sets of a level: tables of that level alone
 abbrev numbersOf : BranchOccurrences → List ℕ
-numbersOf = rowsPut (replicate 4 0) 0
+numbersOf = rowsPut (replicate numbersPerBranch 0) 0
 
 abbrev setsOf : BranchOccurrences → List ℕ
-setsOf = setsPut (replicate 3 0) 0
+setsOf = setsPut (replicate setsPerBranch 0) 0
 
 abbrev occurrencesFrom : List ℕ → List ℕ → BranchOccurrences
 occurrencesFrom numbers sets = occurrencesAt numbers sets 0
 
 module _ (rows sets : List ℕ) (level : ℕ) (branch : BranchOccurrences) where
   pub occurrences-put-same :
-      length rows ≡ openBranches * 4 → length sets ≡ openBranches * 3
+      length rows ≡ openBranches * numbersPerBranch → length sets ≡ openBranches * setsPerBranch
       → occurrencesAt (rowsPut rows level branch) (setsPut sets level branch) level ≡ branch
   occurrences-put-same rowsSize setsSize =
       ap₂ occurrencesFrom
@@ -36,8 +36,8 @@ module _ (rows sets : List ℕ) (level : ℕ) (branch : BranchOccurrences) where
   occurrences-put-other other hl ho differ =
       let apart : level % openBranches ≢ other % openBranches = omega arith in
       ap₂ occurrencesFrom
-      (cells-put-other 4 _ _ apart rows (numbersOf branch) (omega arith) 0 4 (omega arith))
-      (cells-put-other 3 _ _ apart sets (setsOf branch) (omega arith) 0 3 (omega arith))
+      (cells-put-other numbersPerBranch _ _ apart rows (numbersOf branch) (omega arith) 0 numbersPerBranch (omega arith))
+      (cells-put-other setsPerBranch _ _ apart sets (setsOf branch) (omega arith) 0 setsPerBranch (omega arith))
 
 pub rows-put-length :
     (rows : List ℕ) (level : ℕ) (branch : BranchOccurrences) → length (rowsPut rows level branch) ≡ length rows
@@ -49,9 +49,9 @@ sets-put-length sets level branch = length-put sets (setStart level) 0 (setsOf b
 
 -- what is put at the innermost open level is the current branch
 pub current-put :
-    (rows : List ℕ) (opened : ℕ) (branch : BranchOccurrences) → length rows ≡ openBranches * 4 → 0 < opened
+    (rows : List ℕ) (opened : ℕ) (branch : BranchOccurrences) → length rows ≡ openBranches * numbersPerBranch → 0 < opened
     → currentBranch (rowsPut rows (opened - 1) branch) opened ≡ branch .«current_branch_num»
 unfolding currentBranch
 current-put rows opened branch size nested =
     simp (ne-eqb opened 0 (omega arith))
-    (ap (λ (b : BranchOccurrences). b .«current_branch_num») (occurrences-put-same rows (replicate 48 0) (opened - 1) branch size refl))
+    (ap (λ (b : BranchOccurrences). b .«current_branch_num») (occurrences-put-same rows (replicate (openBranches * setsPerBranch) 0) (opened - 1) branch size refl))

@@ -6,13 +6,13 @@ use bit_set::BitSet;
 use forms::Branch;
 use sizes::OPEN_BRANCHES;
 
-pub const ROW: usize = 4;
+pub const NUMBERS_PER_BRANCH: usize = 4;
 
-pub const SETS: usize = 3;
+pub const SETS_PER_BRANCH: usize = 3;
 
-pub type BranchRows = [u32; OPEN_BRANCHES * ROW];
+pub type BranchRows = [u32; OPEN_BRANCHES * NUMBERS_PER_BRANCH];
 
-pub type BranchSets = [u64; OPEN_BRANCHES * SETS];
+pub type BranchSets = [u64; OPEN_BRANCHES * SETS_PER_BRANCH];
 
 pub struct BranchOccurrences {
     pub current_branch_num: Branch,
@@ -27,8 +27,8 @@ pub struct BranchOccurrences {
 pub fn load(rows: &BranchRows, sets: &BranchSets, level: u32) -> BranchOccurrences
     ensures { λ r. ⌜ r ≡ occurrencesAt (now (rows .entry)) (now (sets .entry)) level ⌝ }
 {
-    let row = (level % OPEN_BRANCHES as u32) as usize * ROW;
-    let set = (level % OPEN_BRANCHES as u32) as usize * SETS;
+    let row = (level % OPEN_BRANCHES as u32) as usize * NUMBERS_PER_BRANCH;
+    let set = (level % OPEN_BRANCHES as u32) as usize * SETS_PER_BRANCH;
     BranchOccurrences {
         current_branch_num: Branch {
             start: rows[row],
@@ -47,8 +47,8 @@ pub fn store(rows: &mut BranchRows, sets: &mut BranchSets, level: u32, branch: B
     ensures { λ _. ⌜ now (rows .exit) ≡ rowsPut (now (rows .entry)) level branch ⌝ }
     ensures { λ _. ⌜ now (sets .exit) ≡ setsPut (now (sets .entry)) level branch ⌝ }
 {
-    let row = (level % OPEN_BRANCHES as u32) as usize * ROW;
-    let set = (level % OPEN_BRANCHES as u32) as usize * SETS;
+    let row = (level % OPEN_BRANCHES as u32) as usize * NUMBERS_PER_BRANCH;
+    let set = (level % OPEN_BRANCHES as u32) as usize * SETS_PER_BRANCH;
     rows[row] = branch.current_branch_num.start;
     rows[row + 1] = branch.current_branch_num.span;
     rows[row + 2] = branch.num_branches;
@@ -76,7 +76,7 @@ pub fn opened(branch: Branch, arms: u32) -> BranchOccurrences
 pub fn branch_at(rows: &BranchRows, level: u32) -> Branch
     ensures { λ r. ⌜ r ≡ branchAt (now (rows .entry)) level ⌝ }
 {
-    let row = (level % OPEN_BRANCHES as u32) as usize * ROW;
+    let row = (level % OPEN_BRANCHES as u32) as usize * NUMBERS_PER_BRANCH;
     Branch {
         start: rows[row],
         span: rows[row + 1],

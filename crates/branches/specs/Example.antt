@@ -1,9 +1,10 @@
 -- Rules 15.2 to 15.6, tried: in the second arm of one branch another is opened, a variable occurs in it, and it is closed.
 -- The variable had to be guarded as an argument and not as a subterm; so it has to be in the outer branch, which records it.
-use Prim.Native.Nat.{ℕ}
+use Prim.Native.Nat.{ℕ, _*_}
 use mathlib.Core.Path.{_≡_, refl}
 use mathlib.Core.List.{List, [], _∷_}
 use lib.ListN.{replicate}
+use Rattle.sizes.specs.Sizes.{variables, openBranches}
 use Rattle.bit_set.specs.BitSet.{has, emptySet, inserted, union}
 use Rattle.forms.specs.declared.Branch.{Branch}
 use Rattle.variable_records.specs.declared.VarSafetyStatus.the-variants.{Needed, LocallyUnneeded, GloballyUnneeded}
@@ -11,8 +12,9 @@ use Rattle.variable_records.specs.declared.PermVarAllocation.{PermVarAllocation
 use Rattle.variable_records.specs.declared.PermVarAllocation.the-variants.{Done, Pending}
 use Rattle.variable_records.specs.declared.VarAlloc.the-variants.{Perm}
 use Rattle.variable_records.specs.declared.VariableRecord.{VariableRecord}
-use Rattle.variable_records.specs.Rows.{recordAt, recordPut, recordOf, allocationOf, permOf, safetyOf, temporary, isTemporary}
+use Rattle.variable_records.specs.Rows.{rowCells, recordAt, recordPut, recordOf, allocationOf, permOf, safetyOf, temporary, isTemporary}
 use Rattle.variable_records.specs.Safety.{neededIf, unneededIn}
+use Rattle.branch_stack.specs.BranchStack.{numbersPerBranch, setsPerBranch}
 use Rattle.branches.specs.declared.Popped.the-variants.{Left}
 use Rattle.notation.specs.Lists.{numbersFrom}
 use Rattle.branches.specs.Lists.{membersAmong, each}
@@ -28,10 +30,10 @@ branch start = record { start = start; span = 5 }
 
 -- a table after each event, from the first to the last
 abbrev rows₁ : List ℕ
-rows₁ = rowsOpened (replicate 64 0) 0 (branch 10) 2
+rows₁ = rowsOpened (replicate (openBranches * numbersPerBranch) 0) 0 (branch 10) 2
 
 abbrev sets₁ : List ℕ
-sets₁ = setsOpened (replicate 48 0) 0 (branch 10) 2
+sets₁ = setsOpened (replicate (openBranches * setsPerBranch) 0) 0 (branch 10) 2
 
 abbrev rows₂ : List ℕ
 rows₂ = rowsAdvanced rows₁ sets₁ 1 (branch 20)
@@ -52,7 +54,7 @@ abbrev sets₄ : List ℕ
 sets₄ = setsRecorded rows₃ sets₃ 2 0
 
 abbrev records₄ : List ℕ
-records₄ = recordPut (replicate 1_024 0) 0 (variable (Done Needed GloballyUnneeded))
+records₄ = recordPut (replicate (variables * rowCells) 0) 0 (variable (Done Needed GloballyUnneeded))
 
 abbrev rows₅ : List ℕ
 rows₅ = rowsTaken records₄ rows₄ sets₄ 2

@@ -21,7 +21,7 @@ use Rattle.bundle_exactly.specs.Exactly.{
   noClause,
   areBodies,
   bundleOf,
-  textOf,
+  bundleText,
   sizedAnswer,
   Fits,
   AnsweredWith,
@@ -33,7 +33,7 @@ use Rattle.bundle_exactly.specs.RefusedLaws.{length-exactly, room-exactl
 -- ---- What bodies are answered with
 
 module _ (bodies : List Body) (all : areBodies bodies ≡ true) where
-  pub text-read : textOf (bundleOf bodies) ≡ clauseTexts bodies
+  pub text-read : bundleText (bundleOf bodies) ≡ clauseTexts bodies
   text-read = ap clauseTexts (bodies-read bodies all)
 
   pub bodies-roomless :
@@ -43,7 +43,7 @@ module _ (bodies : List Body) (all : areBodies bodies ≡ true) where
       room-exactly (bundleOf bodies) room .1 (bodies-bundle bodies all short, omega (arith, ap length text-read))
 
   module _ {room : ℕ} (fits : Fits bodies room) where
-    text-short : length (textOf (bundleOf bodies)) ≤ room
+    text-short : length (bundleText (bundleOf bodies)) ≤ room
     text-short = omega (arith, ap length text-read, fits .text-fits)
 
     bodies-written : answered (bundleOf bodies) room ≡ Written (length (clauseTexts bodies))

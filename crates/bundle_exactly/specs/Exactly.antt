@@ -77,8 +77,8 @@ pub record IsBundle (bundle : List ℕ) : Type 0 where
   pub plain : ¬ MoreFields (linesOf bundle)
 
 -- then it prints this, where there is room
-abbrev pub textOf : List ℕ → List ℕ
-textOf bundle = clauseTexts (clauses (linesOf bundle))
+abbrev pub bundleText : List ℕ → List ℕ
+bundleText bundle = clauseTexts (clauses (linesOf bundle))
 
 -- ---- What is due to a bundle, in the order of rule 18.6
 
@@ -89,8 +89,8 @@ pub data Due (bundle : List ℕ) (room : ℕ) : Answered → Type 0 where
   more :
       length bundle ≤ sheetBytes → ¬ Unended bundle → ¬ Stray (linesOf bundle) → MoreFields (linesOf bundle)
       → Due bundle room (Refused 0 refusedForm)
-  roomless : IsBundle bundle → room < length (textOf bundle) → Due bundle room (Refused 0 refusedRoom)
-  written : IsBundle bundle → length (textOf bundle) ≤ room → Due bundle room (Written (length (textOf bundle)))
+  roomless : IsBundle bundle → room < length (bundleText bundle) → Due bundle room (Refused 0 refusedRoom)
+  written : IsBundle bundle → length (bundleText bundle) ≤ room → Due bundle room (Written (length (bundleText bundle)))
 
 -- what is ever given: 7, 1, 2 or 9, and at line 0
 abbrev pub GivenToBundles : ℕ → ℕ → Type 0

@@ -31,8 +31,9 @@ use Rattle.code_deque.specs.declared.CodeDeque.the-variants.{Empty, One, Two, T
 use Rattle.debray_allocator.specs.declared.State.{State}
 use Rattle.debray_allocator.specs.declared.At.{At}
 use Rattle.debray_allocator.specs.declared.At.the-variants.{Nowhere, Place}
+use Rattle.debray_allocator.specs.declared.Answer.{Answer}
 use Rattle.debray_allocator.specs.State.{freshState}
-use Rattle.answers.specs.Answers.{codeText, placeText, answerText, endText}
+use Rattle.answers.specs.Answers.{codeText, placeText, answerText, textOf, endText}
 use Rattle.answered.specs.declared.Answered.the-variants.{Written}
 use Rattle.answered.specs.Answered.{refusalText}
 use Rattle.event_sheets.specs.EventSheets.{
@@ -50,7 +51,7 @@ use Rattle.event_sheets.specs.EventSheets.{
 }
 use Rattle.bundles.specs.Bundles.{linesOf, clauses, sheetOf, ranText, clauseText, clauseTexts, isUnended, answered, filled}
 use Rattle.bundles.specs.LinesLaws.{lines-sheet, sheet-append, sheet-ended}
-use Rattle.bundle_exactly.specs.Exactly.{Body, textOf, NoAtZero, EndsAnswer, Each, EndsOnce}
+use Rattle.bundle_exactly.specs.Exactly.{Body, bundleText, NoAtZero, EndsAnswer, Each, EndsOnce}
 use Rattle.bundle_exactly.specs.ReadBackLaws.{free-append}
 use Rattle.bundle_exactly.specs.RefusedLaws.{written-exactly, written-filled}
 
@@ -62,7 +63,7 @@ From number r = 0 < r .refusal → number ≤ r .line
 -- what a line prints, and the lines behind it
 abbrev later : State → ℕ → List ℕ → List (List ℕ) → Ran
 later s number text parts =
-    behind (answerText (lineAnswer s text .code) (lineAnswer s text .at)) (ran (lineAnswer s text .state) (suc number) parts)
+    behind (textOf (lineAnswer s text)) (ran (lineAnswer s text .state) (suc number) parts)
 
 ran-from : (parts : List (List ℕ)) (s : State) (number : ℕ) → From number (ran s number parts)
 unfolding ran lastRan lineRan
@@ -363,9 +364,9 @@ unfolding atText isWord free same
 place-lines Nowhere = no-lines
 place-lines (Place place) = place-line (bytes "at") refl place
 
-answer-lines : (code : CodeDeque) (place : At) → Lines GoesOn (answerText code place)
+answer-lines : (a : Answer) → Lines GoesOn (textOf a)
 unfolding answerText
-answer-lines code place = lines-append (code-lines code) (place-lines place)
+answer-lines a = lines-append (code-lines (a .code)) (place-lines (a .at))
 
 numbers-free : (mark : ℕ) → mark < byte "0" → (m n : ℕ) → allFree mark (decimal m ∷ decimal n ∷ []) ≡ true
 unfolding allFree
@@ -408,7 +409,7 @@ ran-closed (text ∷ (next ∷ parts)) s number =
     by-test ClosedBy (ltb 0 (a .refusal))
     {a = refusedAt number (a .refusal)} {b = later s number text (next ∷ parts)}
     (λ e h. absurd (omega (arith, ltb-true 0 (a .refusal) e)))
-    (λ e h. going-before (answer-lines (a .code) (a .at)) (ran-closed (next ∷ parts) (a .state) (suc number) h))
+    (λ e h. going-before (answer-lines a) (ran-closed (next ∷ parts) (a .state) (suc number) h))
 
 clause-closed : (body : Body) → Closed (clauseText body)
 unfolding clauseText ranText sheetRan
@@ -437,7 +438,7 @@ module _ (bundle out : List ℕ) {count : ℕ} (h : answered bundle (length out)
   written-lines =
       let told = written-exactly bundle (length out) .0 h in
       subst (Lines NotAtZero)
-      (sym (ap (take count) (written-filled bundle out (told .0) (told .1)) ∙ take-at (textOf bundle) _ count (sym (told .2))))
+      (sym (ap (take count) (written-filled bundle out (told .0) (told .1)) ∙ take-at (bundleText bundle) _ count (sym (told .2))))
       (texts-lines (clauses (linesOf bundle)))
 
   -- what is written is whole lines

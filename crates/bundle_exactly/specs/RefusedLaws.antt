@@ -24,7 +24,7 @@ use Rattle.bundle_exactly.specs.Exactly.{
   MoreFields,
   OfBadForm,
   IsBundle,
-  textOf,
+  bundleText,
   Due,
   full,
   unended,
@@ -76,7 +76,7 @@ module _ (bundle : List ℕ) where
             )
 
   -- one that is refused for nothing but the room
-  pub bundle-ran : IsBundle bundle → bundleRan bundle ≡ allRan (textOf bundle)
+  pub bundle-ran : IsBundle bundle → bundleRan bundle ≡ allRan (bundleText bundle)
   unfolding bundleRan
   bundle-ran whole =
       simp (
@@ -97,16 +97,16 @@ module _ (bundle : List ℕ) (room : ℕ) where
   due-given (unended short u) = by-ran (ran-unended bundle short u)
   due-given (stray short u s) = by-ran (ran-stray bundle short u s)
   due-given (more short u s m) = by-ran (ran-more bundle short u s m)
-  due-given (roomless whole h) = by-ran (bundle-ran bundle whole) ∙ text-roomless (textOf bundle) room h
-  due-given (written whole h) = by-ran (bundle-ran bundle whole) ∙ text-written (textOf bundle) room h
+  due-given (roomless whole h) = by-ran (bundle-ran bundle whole) ∙ text-roomless (bundleText bundle) room h
+  due-given (written whole h) = by-ran (bundle-ran bundle whole) ∙ text-written (bundleText bundle) room h
 
   abbrev DueBy : Ran → Type 0
   DueBy r = Due bundle room (answeredBy r room)
 
-  whole-due : IsBundle bundle → DueBy (allRan (textOf bundle))
+  whole-due : IsBundle bundle → DueBy (allRan (bundleText bundle))
   unfolding answeredBy
   whole-due whole =
-      by-test (Due bundle room) (ltb room (length (textOf bundle)))
+      by-test (Due bundle room) (ltb room (length (bundleText bundle)))
       (λ h. roomless whole (ltb-true _ _ h))
       (λ h. written whole (ltb-false _ _ h))
 
@@ -149,12 +149,12 @@ module _ {bundle : List ℕ} {room : ℕ} where
       Due bundle room (Refused 0 refusedOrder) → (length bundle ≤ sheetBytes) × (¬ Unended bundle) × Stray (linesOf bundle)
   order-due (stray short u s) = (short, u, s)
 
-  room-due : Due bundle room (Refused 0 refusedRoom) → IsBundle bundle × (room < length (textOf bundle))
+  room-due : Due bundle room (Refused 0 refusedRoom) → IsBundle bundle × (room < length (bundleText bundle))
   room-due (roomless whole h) = (whole, h)
 
   written-due :
       {count : ℕ} → Due bundle room (Written count)
-      → IsBundle bundle × (length (textOf bundle) ≤ room) × (count ≡ length (textOf bundle))
+      → IsBundle bundle × (length (bundleText bundle) ≤ room) × (count ≡ length (bundleText bundle))
   written-due (written whole h) = (whole, h, refl)
 
   only-due : {line refusal : ℕ} → Due bundle room (Refused line refusal) → GivenToBundles line refusal
@@ -188,14 +188,14 @@ module _ (bundle : List ℕ) (room : ℕ) where
   order-exactly = Iff·trans (answered-exactly bundle room _) (order-due, λ told. stray (told .0) (told .1) (told .2))
 
   -- 9: nothing of all that, and the text is longer than the room
-  pub room-exactly : (answered bundle room ≡ Refused 0 refusedRoom) ↔ (IsBundle bundle × (room < length (textOf bundle)))
+  pub room-exactly : (answered bundle room ≡ Refused 0 refusedRoom) ↔ (IsBundle bundle × (room < length (bundleText bundle)))
   room-exactly = Iff·trans (answered-exactly bundle room _) (room-due, λ told. roomless (told .0) (told .1))
 
   -- and else it is written
   pub written-exactly :
       {count : ℕ}
       → (answered bundle room ≡ Written count)
-      ↔ (IsBundle bundle × (length (textOf bundle) ≤ room) × (count ≡ length (textOf bundle)))
+      ↔ (IsBundle bundle × (length (bundleText bundle) ≤ room) × (count ≡ length (bundleText bundle)))
   written-exactly =
       Iff·trans (answered-exactly bundle room _)
       (written-due, λ told. subst (λ count. Due bundle room (Written count)) (sym (told .2)) (written (told .0) (told .1)))
@@ -216,8 +216,8 @@ bundle-number bundle bundle′ room room′ = number-tells _ _ (bundle-tells bun
 -- ---- The lent bytes of one that is written
 
 pub written-filled :
-    (bundle out : List ℕ) → IsBundle bundle → length (textOf bundle) ≤ length out
-    → filled bundle out ≡ textOf bundle ++ drop (length (textOf bundle)) out
+    (bundle out : List ℕ) → IsBundle bundle → length (bundleText bundle) ≤ length out
+    → filled bundle out ≡ bundleText bundle ++ drop (length (bundleText bundle)) out
 unfolding filled
 written-filled bundle out whole h =
     ap₂ (λ a r. filledBy a (r .text) out) (due-given bundle (length out) (written whole h)) (bundle-ran bundle whole)

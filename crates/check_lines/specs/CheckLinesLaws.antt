@@ -1,6 +1,6 @@
 -- Laws of reading, a field at a time.
 use Prim.Native.Nat.{ℕ, _-_, _<_}
-use mathlib.Core.Path.{_≡_}
+use mathlib.Core.Path.{_≡_, sym}
 use mathlib.Core.List.{List}
 use native.Mathlib.Omega.{arith}
 use lib.ListN.{length, take, drop, length-drop}
@@ -10,8 +10,9 @@ use Rattle.numbers.specs.Numbers.{numberOf}
 use Rattle.fields.specs.Fields.{fieldEnd, fieldsLeft}
 use Rattle.fields.specs.FieldsLaws.{left-none, left-some, left-last, end-within, line-fields}
 use Rattle.check_lines.specs.declared.Line.the-variants.{Malformed}
-use Rattle.check_lines.specs.Codes.{wordCode, noField}
-use Rattle.check_lines.specs.CheckLines.{fieldOf, oneField, twoFields, saidBy, fieldsSay, lineSays}
+use Rattle.check_lines.specs.CheckLines.{fieldsSay, lineSays}
+use Rattle.check_lines.specs.Reading.{wordCode, fieldOf, noField, oneField, twoFields, saidBy}
+use Rattle.check_lines.specs.ReadingLaws.{by-none, word-said}
 
 -- the next field, and what is left behind it
 abbrev pub next : List ℕ → List ℕ
@@ -57,7 +58,8 @@ module _ (code : ℕ) (rest : List ℕ) where
       let second = another rest (omega arith) h in
       let third = another (behind rest) second k in
       rw (left-some tab rest (omega arith), left-some tab (behind rest) second, left-some tab (behind (behind rest)) third)
+      (by-none (fieldOf (next rest)))
 
 pub line-step : (line : List ℕ) → lineSays line ≡ saidBy (wordCode (take (length (before tab line)) line)) (fieldsLeft tab (drop (length (before tab line)) line))
 unfolding lineSays fieldsSay
-line-step line = rw (line-fields line, take-before tab line)
+line-step line = rw (line-fields line, take-before tab line) (sym (word-said (before tab line) _))

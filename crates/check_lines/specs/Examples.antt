@@ -4,7 +4,7 @@ use mathlib.Core.Path.{_≡_, refl}
 use mathlib.Core.List.{List, [], _∷_, map}
 use Rattle.notation.specs.Text.{bytes}
 use Rattle.split.specs.Split.{split, inFront}
-use Rattle.words.specs.Words.{same, codeAmong}
+use Rattle.words.specs.Words.{same}
 use Rattle.numbers.specs.Numbers.{numberOf, isNumber, allDigits, isDigit, valueFrom, needlessZero}
 use Rattle.registers.specs.declared.RegType.the-variants.{Temp, Perm}
 use Rattle.instructions.specs.declared.Instruction.the-variants.{GetVariable, GetValue, PutVariable, PutValue, PutUnsafeValue, SetVariable, SetValue, SetLocalValue, UnifyVariable, UnifyValue, UnifyLocalValue}
@@ -12,8 +12,8 @@ use Rattle.steps.specs.declared.Step.the-variants.{Head, HeadDeep, Goal, GoalDe
 use Rattle.steps.specs.declared.CheckLine.the-variants.{Begins, Does}
 use Rattle.check_lines.specs.declared.Line.{Line}
 use Rattle.check_lines.specs.declared.Line.the-variants.{Malformed, Says}
-use Rattle.check_lines.specs.Codes.{wordCode, noField, deepStep, argumentStep, argumentInstruction, placeInstruction}
-use Rattle.check_lines.specs.CheckLines.{fieldOf, saidBy, fieldsSay, lineSays}
+use Rattle.check_lines.specs.Behind.{noMore, aNumber, aPlace}
+use Rattle.check_lines.specs.CheckLines.{saidAmong, fieldsSay, lineSays}
 
 -- each word, in the order of its rules; a number outside its size has its form all the same
 abbrev wellFormed : List (List ℕ × Line)
@@ -63,9 +63,9 @@ malformed =
     ∷ []
 
 pub lines-read : map (λ (e : List ℕ × Line). lineSays (e .0)) wellFormed ≡ map (λ (e : List ℕ × Line). e .1) wellFormed
-unfolding lineSays fieldsSay split inFront saidBy wordCode codeAmong same fieldOf noField deepStep argumentStep argumentInstruction placeInstruction numberOf isNumber allDigits isDigit valueFrom needlessZero
+unfolding lineSays fieldsSay saidAmong noMore aNumber aPlace split inFront same numberOf isNumber allDigits isDigit valueFrom needlessZero
 lines-read = refl
 
 pub lines-refused : map lineSays malformed ≡ map (λ (line : List ℕ). Malformed) malformed
-unfolding lineSays fieldsSay split inFront saidBy wordCode codeAmong same fieldOf noField deepStep argumentStep argumentInstruction placeInstruction numberOf isNumber allDigits isDigit valueFrom needlessZero
+unfolding lineSays fieldsSay saidAmong noMore aNumber aPlace split inFront same numberOf isNumber allDigits isDigit valueFrom needlessZero
 lines-refused = refl

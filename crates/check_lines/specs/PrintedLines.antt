@@ -1,5 +1,5 @@
 -- Rule 19.2: an instruction's printed line, without its LF, reads back as the instruction.
-use Prim.Native.Nat.{ℕ, zero, suc, _+_, _/_, _%_, _≤_}
+use Prim.Native.Nat.{ℕ, zero, suc, _/_, _%_, _≤_}
 use mathlib.Core.Path.{_≡_, refl, _∙_}
 use mathlib.Core.Bool.{true, false, not}
 use mathlib.Core.List.{List, [], _∷_, _++_}
@@ -12,7 +12,7 @@ use Rattle.notation.specs.Text.{bytes}
 use Rattle.sizes.specs.Sizes.{largestNumber}
 use Rattle.split.specs.Split.{tab, lineFeed, joined}
 use Rattle.split.specs.SplitTrips.{free, allFree, split-joined}
-use Rattle.words.specs.Words.{same, codeAmong}
+use Rattle.words.specs.Words.{same}
 use Rattle.numbers.specs.Numbers.{digit, written, decimal}
 use Rattle.numbers.specs.NumberTrips.{printed-is-read}
 use Rattle.registers.specs.declared.RegType.{RegType}
@@ -25,9 +25,9 @@ use Rattle.instructions.specs.Codes.{codeOf, wordOf, fieldsOf}
 use Rattle.instructions.specs.InstructionsLaws.{text-by-number}
 use Rattle.steps.specs.declared.CheckLine.the-variants.{Does}
 use Rattle.check_lines.specs.declared.Line.the-variants.{Says}
-use Rattle.check_lines.specs.declared.Field.the-variants.{Place as ofPlace}
-use Rattle.check_lines.specs.Codes.{wordCode, argumentInstruction, placeInstruction}
-use Rattle.check_lines.specs.CheckLines.{fieldOf, saidBy, fieldsSay, lineSays}
+use Rattle.check_lines.specs.Behind.{Behind, noMore, aNumber, aPlace, slotOnly, placeAlone, placeAndArgument, slotAndArgument}
+use Rattle.check_lines.specs.Words.{lineWords}
+use Rattle.check_lines.specs.CheckLines.{saidAmong, fieldsSay, lineSays}
 
 abbrev pub printedLine : Instruction → List ℕ
 printedLine instruction = joined tab (fieldsOf (codeOf instruction))
@@ -78,29 +78,52 @@ place-free (Perm r) = decimal-free r
 
 -- ---- The fields read back
 
-place-read : (place : RegType) → inPlace place ≤ largestNumber → fieldOf (registerText place) ≡ ofPlace place
-unfolding fieldOf registerText same
-place-read (Temp r) h = simp (printed-is-read r h)
-place-read (Perm r) h = simp (printed-is-read r h)
+place-read :
+    (place : RegType) → inPlace place ≤ largestNumber → (more : RegType → Behind) (fields : List (List ℕ))
+    → aPlace more (registerText place ∷ fields) ≡ more place fields
+unfolding aPlace registerText same
+place-read (Temp r) h more fields = simp (printed-is-read r h)
+place-read (Perm r) h more fields = simp (printed-is-read r h)
+
+number-read :
+    (n : ℕ) → n ≤ largestNumber → (more : ℕ → Behind) (fields : List (List ℕ))
+    → aNumber more (decimal n ∷ fields) ≡ more n fields
+unfolding aNumber
+number-read n h more fields = rw (printed-is-read n h)
 
 module _ (place : RegType) (h : inPlace place ≤ largestNumber) where
-  place-said : (code : ℕ) → saidBy code (registerText place ∷ []) ≡ placeInstruction code place
-  unfolding saidBy
-  place-said code = rw (place-read place h)
+  place-said :
+      (instruction : RegType → Instruction)
+      → placeAlone instruction (registerText place ∷ []) ≡ Says (Does (instruction place))
+  unfolding noMore
+  place-said instruction = place-read place h (λ p. noMore (Does (instruction p))) []
 
   argument-said :
-      (code k : ℕ) → k ≤ largestNumber → saidBy code (registerText place ∷ decimal k ∷ []) ≡ argumentInstruction code place k
-  unfolding saidBy
-  argument-said code k m = rw (place-read place h, printed-is-read k m)
+      (instruction : RegType → ℕ → Instruction) (k : ℕ) → k ≤ largestNumber
+      → placeAndArgument instruction (registerText place ∷ decimal k ∷ []) ≡ Says (Does (instruction place k))
+  unfolding noMore
+  argument-said instruction k m =
+      place-read place h (λ p. aNumber (λ n. noMore (Does (instruction p n)))) (decimal k ∷ [])
+      ∙ number-read k m (λ n. noMore (Does (instruction place n))) []
+
+slot-said :
+    (instruction : ℕ → ℕ → Instruction) (slot : ℕ) → slot ≤ largestNumber → (k : ℕ) → k ≤ largestNumber
+    → slotAndArgument instruction (registerText (Perm slot) ∷ decimal k ∷ []) ≡ Says (Does (instruction slot k))
+unfolding noMore
+slot-said instruction slot h k m =
+    place-read (Perm slot) h (slotOnly (λ s. aNumber (λ n. noMore (Does (instruction s n))))) (decimal k ∷ [])
+    ∙ number-read k m (λ n. noMore (Does (instruction slot n))) []
 
 module _ (word : List ℕ) (place : RegType) (clear : free tab word ≡ true) where
-  two-said : lineSays (joined tab (word ∷ registerText place ∷ [])) ≡ saidBy (wordCode word) (registerText place ∷ [])
+  two-said :
+      lineSays (joined tab (word ∷ registerText place ∷ [])) ≡ saidAmong lineWords word (registerText place ∷ [])
   unfolding lineSays fieldsSay allFree
   two-said = rw (split-joined tab word (registerText place ∷ []) (simp (clear, place-free place)))
 
   three-said :
       (k : ℕ)
-      → lineSays (joined tab (word ∷ registerText place ∷ decimal k ∷ [])) ≡ saidBy (wordCode word) (registerText place ∷ decimal k ∷ [])
+      → lineSays (joined tab (word ∷ registerText place ∷ decimal k ∷ []))
+      ≡ saidAmong lineWords word (registerText place ∷ decimal k ∷ [])
   unfolding lineSays fieldsSay allFree
   three-said k =
       rw (split-joined tab word (registerText place ∷ decimal k ∷ []) (simp (clear, place-free place, decimal-free k)))
@@ -109,15 +132,15 @@ module _ (word : List ℕ) (place : RegType) (clear : free tab word ≡ true) wh
 pub instruction-read :
     (instruction : Instruction) → inPlace (codeOf instruction .place) ≤ largestNumber → codeOf instruction .argument ≤ largestNumber
     → lineSays (printedLine instruction) ≡ Says (Does instruction)
-unfolding fieldsOf wordOf wordCode codeAmong same free argumentInstruction placeInstruction
-instruction-read (GetVariable place k) h m = three-said (bytes "get_variable") place refl k ∙ argument-said place h 6 k m
-instruction-read (GetValue place k) h m = three-said (bytes "get_value") place refl k ∙ argument-said place h 7 k m
-instruction-read (PutVariable place k) h m = three-said (bytes "put_variable") place refl k ∙ argument-said place h 8 k m
-instruction-read (PutValue place k) h m = three-said (bytes "put_value") place refl k ∙ argument-said place h 9 k m
-instruction-read (PutUnsafeValue slot k) h m = three-said (bytes "put_unsafe_value") (Perm slot) refl k ∙ argument-said (Perm slot) h 10 k m
-instruction-read (SetVariable place) h m = two-said (bytes "set_variable") place refl ∙ place-said place h 11
-instruction-read (SetValue place) h m = two-said (bytes "set_value") place refl ∙ place-said place h 12
-instruction-read (SetLocalValue place) h m = two-said (bytes "set_local_value") place refl ∙ place-said place h 13
-instruction-read (UnifyVariable place) h m = two-said (bytes "unify_variable") place refl ∙ place-said place h 14
-instruction-read (UnifyValue place) h m = two-said (bytes "unify_value") place refl ∙ place-said place h 15
-instruction-read (UnifyLocalValue place) h m = two-said (bytes "unify_local_value") place refl ∙ place-said place h 16
+unfolding fieldsOf wordOf saidAmong same free
+instruction-read (GetVariable place k) h m = three-said (bytes "get_variable") place refl k ∙ argument-said place h GetVariable k m
+instruction-read (GetValue place k) h m = three-said (bytes "get_value") place refl k ∙ argument-said place h GetValue k m
+instruction-read (PutVariable place k) h m = three-said (bytes "put_variable") place refl k ∙ argument-said place h PutVariable k m
+instruction-read (PutValue place k) h m = three-said (bytes "put_value") place refl k ∙ argument-said place h PutValue k m
+instruction-read (PutUnsafeValue slot k) h m = three-said (bytes "put_unsafe_value") (Perm slot) refl k ∙ slot-said PutUnsafeValue slot h k m
+instruction-read (SetVariable place) h m = two-said (bytes "set_variable") place refl ∙ place-said place h SetVariable
+instruction-read (SetValue place) h m = two-said (bytes "set_value") place refl ∙ place-said place h SetValue
+instruction-read (SetLocalValue place) h m = two-said (bytes "set_local_value") place refl ∙ place-said place h SetLocalValue
+instruction-read (UnifyVariable place) h m = two-said (bytes "unify_variable") place refl ∙ place-said place h UnifyVariable
+instruction-read (UnifyValue place) h m = two-said (bytes "unify_value") place refl ∙ place-said place h UnifyValue
+instruction-read (UnifyLocalValue place) h m = two-said (bytes "unify_local_value") place refl ∙ place-said place h UnifyLocalValue

@@ -4,26 +4,24 @@ ghost use mathlib.Core.Path.{_≡_};
 ghost use Rattle.split.specs.Split.{tab};
 ghost use Rattle.words.specs.Words.{codeAmong};
 ghost use Rattle.fields.specs.Fields.{fieldsLeft};
-ghost use Rattle.instructions.specs.Codes.{words as instructionWords};
-ghost use Rattle.check_lines.specs.Codes.{
+ghost use Rattle.check_lines.specs.CheckLines.{lineSays};
+ghost use Rattle.check_lines.specs.Reading.{
   wordCode,
+  instructionWords,
   placeWords,
+  byItself,
+  inRegister,
+  inSlot,
+  fieldOf,
   noField,
   deepStep,
   argumentStep,
   unsafeLine,
   argumentInstruction,
   placeInstruction,
-};
-ghost use Rattle.check_lines.specs.CheckLines.{
-  byItself,
-  inRegister,
-  inSlot,
-  fieldOf,
   oneField,
   twoFields,
   saidBy,
-  lineSays,
 };
 use instructions::Instruction;
 use numbers::Number;
@@ -47,8 +45,8 @@ enum Field {
 
 // ---- Words
 
-// The number of a line's word: 1 stands alone, 2 and 3 have one number behind them, 4 and 5 two, 6 to 10 a place and an
-// argument, and 11 to 16 a place; 0 is none of them.
+// The number of a line's word, its place in the table: 1 stands alone, 2 and 3 have one number behind them, 4 and 5 two, 6 to
+// 10 a place and an argument, and 11 to 16 a place; 0 is none of them.
 fn word_code(word: &[u8]) -> u32
     ensures { λ r. ⌜ r ≡ wordCode (now (word .entry)) ⌝ }
 {

@@ -16,7 +16,8 @@ use Rattle.variable_records.specs.declared.VarAlloc.the-variants.{Temp, Perm}
 use Rattle.variable_records.specs.declared.VariableRecord.{VariableRecord}
 use Rattle.variable_records.specs.Rows.{unset, recordAt, recordPut}
 use Rattle.temp_var_data.specs.Uses.{useSetsWith, useCountsWith}
-use Rattle.restricting_sets.specs.Restricting.{below, rowsAnew, noChunk, noUseOf, conflictAt}
+use Rattle.register_sets.specs.RegisterSets.{setPut}
+use Rattle.restricting_sets.specs.Restricting.{below, setsAnew, noChunk, noUseOf, conflictAt}
 use Rattle.branches.specs.Lists.{each}
 use Rattle.allocator_state.specs.declared.Counters.{Counters}
 use Rattle.allocator_state.specs.Counters.{withRecords}
@@ -42,8 +43,8 @@ rowsPut t v variable =
     rows
     (recordPut (t .records) v variable)
     (set (t .useCounts) (v % variables) 0)
-    (set (t .noUse) (v % variables) emptySet)
-    (set (t .conflict) (v % variables) emptySet)
+    (setPut (t .noUse) v emptySet)
+    (setPut (t .conflict) v emptySet)
 
 -- a record of which nothing has been marked
 abbrev pub fresh : VarAlloc → ℕ → VariableRecord
@@ -135,5 +136,5 @@ restricting noUse conflict = record { noUse = noUse; conflict = conflict }
 unfoldable pub populated : Counters → List ℕ → List ℕ → List ℕ → Restricting → Restricting
 populated c records useSets useCounts s =
     restricting
-    (rowsAnew (noUseOf useSets useCounts (chunksOf c records)) (s .noUse))
-    (rowsAnew (conflictAt useSets useCounts (chunksOf c records)) (s .conflict))
+    (setsAnew (noUseOf useSets useCounts (chunksOf c records)) (s .noUse))
+    (setsAnew (conflictAt useSets useCounts (chunksOf c records)) (s .conflict))

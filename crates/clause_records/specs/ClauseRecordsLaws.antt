@@ -6,7 +6,7 @@ use mathlib.Core.List.{List, map}
 use mathlib.Core.Logic.{_↔_, _⊎_, ⊎-map}
 use native.Mathlib.Omega.{arith}
 use lib.Dec.{leb}
-use lib.ListN.{length, getD}
+use lib.ListN.{length}
 use borrow.Author.Tests.{lt-leb, le-leb, leb-true, leb-false}
 use Rattle.sizes.specs.Sizes.{variables, registers, chunks as lastChunk}
 use Rattle.bit_set.specs.BitSet.{has}
@@ -14,10 +14,11 @@ use Rattle.forms.specs.declared.GenContext.{GenContext}
 use Rattle.variable_records.specs.declared.VarAlloc.{VarAlloc}
 use Rattle.variable_records.specs.declared.VarAlloc.the-variants.{Temp, Perm}
 use Rattle.variable_records.specs.Rows.{recordAt, temporary, isTemporary}
+use Rattle.register_sets.specs.RegisterSets.{setAt}
 use Rattle.temp_var_data.specs.Lists.{_∈_}
 use Rattle.temp_var_data.specs.Uses.{lastContext, useCode, registerOf, usesOf, UseAdded}
 use Rattle.temp_var_data.specs.ConflictLaws.{conflict-exactly}
-use Rattle.restricting_sets.specs.Restricting.{below, rowsAnew, noChunk, chunkOf, isTemporary as hasChunk, noUseOf, conflictAt, Populated}
+use Rattle.restricting_sets.specs.Restricting.{below, setsAnew, noChunk, chunkOf, isTemporary as hasChunk, noUseOf, conflictAt, Populated}
 use Rattle.restricting_sets.specs.BelowLaws.{map-length, map-at}
 use Rattle.restricting_sets.specs.RowsLaws.{any-default}
 use Rattle.restricting_sets.specs.RestrictingLaws.{no-use-exactly, conflict-anew}
@@ -69,7 +70,7 @@ module _ (c : Counters) (records useSets useCounts : List ℕ) where
   sets-populated {chunks} {noUse} {conflict} e p =
       ap₂ restricting (p .noUses) (p .conflicts)
       ∙ ap
-      (λ (k : List ℕ). restricting (rowsAnew (noUseOf useSets useCounts k) noUse) (rowsAnew (conflictAt useSets useCounts k) conflict))
+      (λ (k : List ℕ). restricting (setsAnew (noUseOf useSets useCounts k) noUse) (setsAnew (conflictAt useSets useCounts k) conflict))
       e
 
 -- ---- The chunks of the records
@@ -133,21 +134,23 @@ module _ (c : Counters) (records : List ℕ) where
 
       -- rule 7.2: v's no-use set has r exactly if it had r before, or there is such a u
       pub no-use-of-records :
-          (has (getD (populated c records useSets useCounts s .noUse) v 0) r ≡ true)
-          ↔ ((has (getD (s .noUse) v 0) r ≡ true) ⊎ ((u : ℕ) × RestrictsAt u))
+          length (s .noUse) ≡ variables
+          → (has (setAt (populated c records useSets useCounts s .noUse) v) r ≡ true)
+          ↔ ((has (setAt (s .noUse) v) r ≡ true) ⊎ ((u : ℕ) × RestrictsAt u))
       unfolding populated
-      no-use-of-records =
+      no-use-of-records full =
           let here = chunk-here v (t .0) in
-          let exactly = no-use-exactly useSets useCounts (chunksOf c records) v r (s .noUse) (omega (arith, t .0, held)) (temporary-has v t) h in (
+          let exactly = no-use-exactly useSets useCounts (chunksOf c records) v r (s .noUse) full (omega (arith, t .0, held)) (temporary-has v t) h in (
             λ e. ⊎-map (λ was. was) (λ u. (u .0, (chunk-temporary (u .0) (u .1) (u .2 .0), u .2 .1, rw (← here) (u .2 .2), u .2 .3))) (exactly .0 e),
             λ e. exactly .1 (⊎-map (λ was. was) (λ u. (u .0, (omega (arith, u .1 .0 .0, held)), (temporary-has (u .0) (u .1 .0), u .1 .1, rw here (u .1 .2), u .1 .3))) e),
           )
 
       -- rule 7.3: v's conflict set has r exactly if r is 1 or more, below the number of entries of its use set, and none has it
       pub conflict-of-records :
-          (has (getD (populated c records useSets useCounts s .conflict) v 0) r ≡ true)
+          length (s .conflict) ≡ variables
+          → (has (setAt (populated c records useSets useCounts s .conflict) v) r ≡ true)
           ↔ ((1 ≤ r) × (r < length (usesOf useSets useCounts v)) × ((code : ℕ) → code ∈ usesOf useSets useCounts v → r ≡ registerOf code → ⊥))
       unfolding populated
-      conflict-of-records =
-          rw (conflict-anew useSets useCounts (chunksOf c records) v (omega (arith, t .0, held)) (s .conflict) (temporary-has v t))
+      conflict-of-records full =
+          rw (conflict-anew useSets useCounts (chunksOf c records) v (omega (arith, t .0, held)) (s .conflict) full (temporary-has v t))
           (conflict-exactly (usesOf useSets useCounts v) r h)

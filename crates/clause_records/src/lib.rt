@@ -15,9 +15,9 @@ ghost use Rattle.clause_records.specs.ClauseRecords.{
   populated,
 };
 use allocator_state::Counters;
-use evacuation::RegisterSets;
 use forms::GenContext;
 use freeing::Released;
+use register_sets::RegisterSets;
 use restricting_sets::Chunks;
 use restricting_sets::NO_CHUNK;
 use sizes::VARIABLES;
@@ -42,11 +42,10 @@ fn put_rows(
 )
     ensures { λ _. ⌜ rows (now (records .exit)) (now («use_counts» .exit)) (now («no_use» .exit)) (now (conflict .exit)) ≡ rowsPut (rows (now (records .entry)) (now («use_counts» .entry)) (now («no_use» .entry)) (now (conflict .entry))) v variable ⌝ }
 {
-    let row = (v % VARIABLES as u32) as usize;
+    use_counts[(v % VARIABLES as u32) as usize] = 0;
     let nothing = bit_set::empty();
-    use_counts[row] = 0;
-    no_use[row] = nothing;
-    conflict[row] = nothing;
+    register_sets::store(no_use, v, nothing);
+    register_sets::store(conflict, v, nothing);
     variable_records::store(records, v, variable);
 }
 

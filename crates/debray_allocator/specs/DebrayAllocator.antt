@@ -17,7 +17,7 @@ use Rattle.mark_var.specs.MarkVar.{VarMark, varMarked}
 use Rattle.other_marks.specs.OtherMarks.{MarkOf, CutOf, anonMarked, nonVarMarked, cutMarked}
 use Rattle.resets.specs.Resets.{Heading, Clearing, argReset, headReset, argAdvanced, contentsReset, wholeReset, freeListReset, tailSet}
 use Rattle.resets.specs.Resets.{Answer as Counting, registerFreed, runningIncremented, safeMarked}
-use Rattle.clause_records.specs.ClauseRecords.{Recording, TempRecording, Restricting, rows, restricting, permRecorded, tempRecorded, populated}
+use Rattle.clause_records.specs.ClauseRecords.{Rows, Recording, TempRecording, Restricting, rows, restricting, permRecorded, tempRecorded, populated}
 use Rattle.branch_events.specs.BranchEvents.{Stack, BranchStep, opened, armed, stockTaken, closed}
 use Rattle.events.specs.declared.Event.{Event}
 use Rattle.events.specs.declared.Event.the-variants.{Temp, Perm, Sets as PopulateSets, Head, Args, Var, Anon, NonVar, Cut, Incr, Free, Safe, Give, Tail, Next, Open, Arm, Take, Close, Reset, Contents, ClearFree}
@@ -27,7 +27,7 @@ use Rattle.debray_allocator.specs.declared.At.{At}
 use Rattle.debray_allocator.specs.declared.At.the-variants.{Nowhere, Place}
 use Rattle.debray_allocator.specs.declared.Acted.{Acted}
 use Rattle.debray_allocator.specs.declared.Answer.{Answer}
-use Rattle.debray_allocator.specs.State.{stateOf}
+use Rattle.debray_allocator.specs.State.{stateOf, putRecords, putUseSets, putUseCounts, putNoUse, putConflict, putMappings, putFreedRegisters, putFreedSlots, putBranchRows, putBranchSets}
 
 -- ---- What a line makes: the counters, the instructions, the place for `at`, the refusal
 
@@ -53,242 +53,85 @@ byMark m =
 abbrev pub answerOf : List ℕ → List ℕ → List ℕ → List ℕ → List ℕ → List ℕ → List ℕ → List ℕ → List ℕ → List ℕ → Acted → Answer
 answerOf records useSets useCounts noUse conflict mappings freedRegisters freedSlots branchRows branchSets acted =
     record {
-      state =
-          stateOf
-          (acted .counters)
-          records
-          useSets
-          useCounts
-          noUse
-          conflict
-          mappings
-          freedRegisters
-          freedSlots
-          branchRows
-          branchSets;
+      state = stateOf (acted .counters) records useSets useCounts noUse conflict mappings freedRegisters freedSlots branchRows branchSets;
       code = acted .code;
       at = acted .at;
       refusal = acted .refusal;
     }
 
+-- with the tables of a state
+abbrev pub withCounters : State → Acted → Answer
+withCounters s acted =
+    answerOf
+    (s .records)
+    (s .«use_sets»)
+    (s .«use_counts»)
+    (s .«no_use»)
+    (s .conflict)
+    (s .mappings)
+    (s .«freed_registers»)
+    (s .«freed_slots»)
+    (s .«branch_rows»)
+    (s .«branch_sets»)
+    acted
+
 -- ---- The state with the tables that an event may change
+
+-- the tables in which a record has its row
+abbrev pub putRows : Rows → State → State
+putRows t s = putRecords (t .records) (putUseCounts (t .useCounts) (putNoUse (t .noUse) (putConflict (t .conflict) s)))
+
+abbrev pub putBranches : List ℕ → List ℕ → State → State
+putBranches rows sets s = putBranchRows rows (putBranchSets sets s)
 
 module _ (s : State) where
   abbrev pub setsOf : Sets
   setsOf = sets (s .«use_sets») (s .«use_counts») (s .«no_use») (s .conflict)
 
-  abbrev pub withCounters : Acted → Answer
-  withCounters acted =
-      answerOf
-      (s .records)
-      (s .«use_sets»)
-      (s .«use_counts»)
-      (s .«no_use»)
-      (s .conflict)
-      (s .mappings)
-      (s .«freed_registers»)
-      (s .«freed_slots»)
-      (s .«branch_rows»)
-      (s .«branch_sets»)
-      acted
-
   abbrev pub onlyCounters : Counters → Answer
-  onlyCounters c = withCounters (plainly c)
+  onlyCounters c = withCounters s (plainly c)
 
   abbrev pub withRecording : Recording → Answer
-  withRecording r =
-      answerOf
-      (r .tables .records)
-      (s .«use_sets»)
-      (r .tables .useCounts)
-      (r .tables .noUse)
-      (r .tables .conflict)
-      (s .mappings)
-      (s .«freed_registers»)
-      (s .«freed_slots»)
-      (s .«branch_rows»)
-      (s .«branch_sets»)
-      (byRelease (r .released))
+  withRecording r = withCounters (putRows (r .tables) s) (byRelease (r .released))
 
   abbrev pub withTempRecording : TempRecording → Answer
-  withTempRecording r =
-      answerOf
-      (r .tables .records)
-      (r .useSets)
-      (r .tables .useCounts)
-      (r .tables .noUse)
-      (r .tables .conflict)
-      (s .mappings)
-      (s .«freed_registers»)
-      (s .«freed_slots»)
-      (s .«branch_rows»)
-      (s .«branch_sets»)
-      (byRelease (r .released))
+  withTempRecording r = withCounters (putRows (r .tables) (putUseSets (r .useSets) s)) (byRelease (r .released))
 
   abbrev pub withRestricting : Restricting → Answer
-  withRestricting r =
-      answerOf
-      (s .records)
-      (s .«use_sets»)
-      (s .«use_counts»)
-      (r .noUse)
-      (r .conflict)
-      (s .mappings)
-      (s .«freed_registers»)
-      (s .«freed_slots»)
-      (s .«branch_rows»)
-      (s .«branch_sets»)
-      (plainly (s .counters))
+  withRestricting r = withCounters (putNoUse (r .noUse) (putConflict (r .conflict) s)) (plainly (s .counters))
 
   abbrev pub withHeading : Heading → Answer
-  withHeading h =
-      answerOf
-      (h .records)
-      (s .«use_sets»)
-      (s .«use_counts»)
-      (s .«no_use»)
-      (s .conflict)
-      (h .mappings)
-      (s .«freed_registers»)
-      (s .«freed_slots»)
-      (s .«branch_rows»)
-      (s .«branch_sets»)
-      (plainly (h .counters))
+  withHeading h = withCounters (putRecords (h .records) (putMappings (h .mappings) s)) (plainly (h .counters))
 
   abbrev pub withClearing : Clearing → Answer
-  withClearing cleared =
-      answerOf
-      (s .records)
-      (s .«use_sets»)
-      (s .«use_counts»)
-      (s .«no_use»)
-      (s .conflict)
-      (cleared .mappings)
-      (s .«freed_registers»)
-      (s .«freed_slots»)
-      (s .«branch_rows»)
-      (s .«branch_sets»)
-      (plainly (cleared .counters))
+  withClearing cleared = withCounters (putMappings (cleared .mappings) s) (plainly (cleared .counters))
 
   abbrev pub withVarMark : VarMark → Answer
   withVarMark m =
-      answerOf
-      (m .records)
-      (s .«use_sets»)
-      (s .«use_counts»)
-      (s .«no_use»)
-      (s .conflict)
-      (m .mappings)
-      (s .«freed_registers»)
-      (m .list)
-      (m .rows)
-      (m .branchSets)
+      withCounters
+      (putRecords (m .records) (putMappings (m .mappings) (putFreedSlots (m .list) (putBranches (m .rows) (m .branchSets) s))))
       (byMark (m .marked))
 
   abbrev pub withMark : MarkOf → Answer
-  withMark m =
-      answerOf
-      (m .records)
-      (s .«use_sets»)
-      (s .«use_counts»)
-      (s .«no_use»)
-      (s .conflict)
-      (m .mappings)
-      (s .«freed_registers»)
-      (s .«freed_slots»)
-      (s .«branch_rows»)
-      (s .«branch_sets»)
-      (byMark (m .marked))
+  withMark m = withCounters (putRecords (m .records) (putMappings (m .mappings) s)) (byMark (m .marked))
 
   abbrev pub withCut : CutOf → Answer
-  withCut m =
-      answerOf
-      (m .records)
-      (s .«use_sets»)
-      (s .«use_counts»)
-      (s .«no_use»)
-      (s .conflict)
-      (s .mappings)
-      (s .«freed_registers»)
-      (s .«freed_slots»)
-      (s .«branch_rows»)
-      (s .«branch_sets»)
-      (byMark (m .marked))
+  withCut m = withCounters (putRecords (m .records) s) (byMark (m .marked))
 
   abbrev pub withCounting : Counting → Answer
-  withCounting a =
-      answerOf
-      (a .records)
-      (s .«use_sets»)
-      (s .«use_counts»)
-      (s .«no_use»)
-      (s .conflict)
-      (s .mappings)
-      (s .«freed_registers»)
-      (s .«freed_slots»)
-      (s .«branch_rows»)
-      (s .«branch_sets»)
-      (byRefusal (s .counters) (a .refusal))
+  withCounting a = withCounters (putRecords (a .records) s) (byRefusal (s .counters) (a .refusal))
 
   abbrev pub withReleaseOf : ReleaseOf → Answer
-  withReleaseOf r =
-      answerOf
-      (r .records)
-      (s .«use_sets»)
-      (s .«use_counts»)
-      (s .«no_use»)
-      (s .conflict)
-      (s .mappings)
-      (s .«freed_registers»)
-      (r .list)
-      (s .«branch_rows»)
-      (s .«branch_sets»)
-      (byRelease (r .released))
+  withReleaseOf r = withCounters (putRecords (r .records) (putFreedSlots (r .list) s)) (byRelease (r .released))
 
   abbrev pub withFreedRegister : Release → Answer
-  withFreedRegister r =
-      answerOf
-      (s .records)
-      (s .«use_sets»)
-      (s .«use_counts»)
-      (s .«no_use»)
-      (s .conflict)
-      (s .mappings)
-      (r .list)
-      (s .«freed_slots»)
-      (s .«branch_rows»)
-      (s .«branch_sets»)
-      (byRelease (r .released))
+  withFreedRegister r = withCounters (putFreedRegisters (r .list) s) (byRelease (r .released))
 
   abbrev pub withStack : Stack → Answer
-  withStack b =
-      answerOf
-      (s .records)
-      (s .«use_sets»)
-      (s .«use_counts»)
-      (s .«no_use»)
-      (s .conflict)
-      (s .mappings)
-      (s .«freed_registers»)
-      (s .«freed_slots»)
-      (b .rows)
-      (b .sets)
-      (byRelease (b .released))
+  withStack b = withCounters (putBranches (b .rows) (b .sets) s) (byRelease (b .released))
 
   abbrev pub withBranchStep : BranchStep → Answer
-  withBranchStep b =
-      answerOf
-      (b .records)
-      (s .«use_sets»)
-      (s .«use_counts»)
-      (s .«no_use»)
-      (s .conflict)
-      (s .mappings)
-      (s .«freed_registers»)
-      (s .«freed_slots»)
-      (b .rows)
-      (b .sets)
-      (byRelease (b .released))
+  withBranchStep b = withCounters (putRecords (b .records) (putBranches (b .rows) (b .sets) s)) (byRelease (b .released))
 
   -- ---- A line that nothing refused before, by its word: rules 5.6 to 5.27
 
@@ -328,19 +171,7 @@ abbrev pub actedOf : Answer → Acted
 actedOf a = record { counters = a .state .counters; code = a .code; at = a .at; refusal = a .refusal }
 
 abbrev pub seenIn : Answer → Event → Answer
-seenIn a event =
-    answerOf
-    (a .state .records)
-    (a .state .«use_sets»)
-    (a .state .«use_counts»)
-    (a .state .«no_use»)
-    (a .state .conflict)
-    (a .state .mappings)
-    (a .state .«freed_registers»)
-    (a .state .«freed_slots»)
-    (a .state .«branch_rows»)
-    (a .state .«branch_sets»)
-    (seenAfter (actedOf a) event)
+seenIn a event = withCounters (a .state) (seenAfter (actedOf a) event)
 
 unfoldable pub refusedWith : State → ℕ → Answer
 refusedWith s refusal = withCounters s (byRefusal (s .counters) refusal)

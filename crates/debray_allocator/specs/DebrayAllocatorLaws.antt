@@ -37,32 +37,16 @@ module _ (s : State) (event : Event) (list : List ℕ) where
   unfolding acted
   acted-refused {refusal} e h refused = ap (withCounters s) refused ∙ refused-with refusal ∙ simp (← e, lt-ltb _ _ h)
 
-  -- an answer, with what was seen
-  abbrev pub toldWith : Answer → Acted → Answer
-  toldWith b a =
-      answerOf
-      (b .state .records)
-      (b .state .«use_sets»)
-      (b .state .«use_counts»)
-      (b .state .«no_use»)
-      (b .state .conflict)
-      (b .state .mappings)
-      (b .state .«freed_registers»)
-      (b .state .«freed_slots»)
-      (b .state .«branch_rows»)
-      (b .state .«branch_sets»)
-      a
-
   pub acted-carried :
       {refusal : ℕ} {a : Acted} (b : Answer)
       → refusal ≡ refusalBefore (s .counters) event list
       → refusal ≤ 0
       → b ≡ carriedOut s event list
       → a ≡ seenAfter (actedOf b) event
-      → toldWith b a ≡ acted s event list
+      → withCounters (b .state) a ≡ acted s event list
   unfolding acted
   acted-carried b e h made seen =
-      ap (toldWith b) seen ∙ ap (λ b. seenIn b event) made ∙ simp (← e, le-ltb _ _ h)
+      ap (withCounters (b .state)) seen ∙ ap (λ b. seenIn b event) made ∙ simp (← e, le-ltb _ _ h)
 
   -- a refused line leaves the state as it was; any other is answered as it is
   pub stepped-refused :

@@ -1,4 +1,4 @@
-// The state of a clause as one struct, and each line of an event sheet as a step of it.
+// The state of a clause as one struct, and each line of an event sheet carried out over its tables.
 ghost use mathlib.Core.Path.{_≡_};
 ghost use Rattle.debray_allocator.specs.State.{stateOf, freshState};
 ghost use Rattle.debray_allocator.specs.DebrayAllocator.{
@@ -10,19 +10,18 @@ ghost use Rattle.debray_allocator.specs.DebrayAllocator.{
   carriedOut,
   seenAfter,
   acted,
-  stepped,
 };
 use allocation::TempFreeList;
 use allocator_state::Counters;
 use branch_stack::BranchRows;
 use branch_stack::BranchSets;
 use code_deque::CodeDeque;
-use evacuation::RegisterSets;
 use events::Event;
 use freeing::Released;
 use mark_var::Mark;
 use marks::Marked;
 use perm_free_list::PermFreeList;
+use register_sets::RegisterSets;
 use registers::RegType;
 use shallow_temp_mappings::Mappings;
 use sizes::FREED_REGISTERS;
@@ -78,16 +77,16 @@ pub fn fresh() -> State
 {
     State {
         counters: allocator_state::fresh_counters(),
-        records: [0; variable_records::CELLS],
+        records: [0; variable_records::TABLE_CELLS],
         use_sets: [0; temp_var_data::ENTRIES],
         use_counts: [0; VARIABLES],
         no_use: [0; VARIABLES],
         conflict: [0; VARIABLES],
         mappings: [VARIABLES as u32; LAST_REGISTER as usize + 1],
         freed_registers: [0; FREED_REGISTERS],
-        freed_slots: [0; FREED_SLOTS * 2],
-        branch_rows: [0; OPEN_BRANCHES * branch_stack::ROW],
-        branch_sets: [0; OPEN_BRANCHES * branch_stack::SETS],
+        freed_slots: [0; FREED_SLOTS * perm_free_list::ENTRY_CELLS],
+        branch_rows: [0; OPEN_BRANCHES * branch_stack::NUMBERS_PER_BRANCH],
+        branch_sets: [0; OPEN_BRANCHES * branch_stack::SETS_PER_BRANCH],
     }
 }
 
@@ -335,65 +334,4 @@ pub fn act(
         list,
     );
     seen(carried, event)
-}
-
-// A line as a step of the state: a refused one leaves the state as it was.
-pub fn step(state: State, event: Event, list: &[u32]) -> Answer
-    ensures { λ r. ⌜ r ≡ stepped state event (now (list .entry)) ⌝ }
-{
-    let counters = state.counters;
-    let mut records = state.records;
-    let mut use_sets = state.use_sets;
-    let mut use_counts = state.use_counts;
-    let mut no_use = state.no_use;
-    let mut conflict = state.conflict;
-    let mut mappings = state.mappings;
-    let mut freed_registers = state.freed_registers;
-    let mut freed_slots = state.freed_slots;
-    let mut branch_rows = state.branch_rows;
-    let mut branch_sets = state.branch_sets;
-    let acted = act(
-        counters,
-        &mut records,
-        &mut use_sets,
-        &mut use_counts,
-        &mut no_use,
-        &mut conflict,
-        &mut mappings,
-        &mut freed_registers,
-        &mut freed_slots,
-        &mut branch_rows,
-        &mut branch_sets,
-        event,
-        list,
-    );
-    if 0 < acted.refusal {
-        return Answer {
-            state,
-            code: CodeDeque::Empty,
-            at: At::Nowhere,
-            refusal: acted.refusal,
-        };
-    }
-    let after = acted.counters;
-    let code = acted.code;
-    let at = acted.at;
-    Answer {
-        state: State {
-            counters: after,
-            records,
-            use_sets,
-            use_counts,
-            no_use,
-            conflict,
-            mappings,
-            freed_registers,
-            freed_slots,
-            branch_rows,
-            branch_sets,
-        },
-        code,
-        at,
-        refusal: acted.refusal,
-    }
 }

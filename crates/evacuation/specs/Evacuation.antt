@@ -1,9 +1,8 @@
 -- The choice of a register for a variable by its sets, and the evacuation of a register.
-use Prim.Native.Nat.{ℕ, _%_}
+use Prim.Native.Nat.{ℕ}
 use mathlib.Core.Bool.{not}
 use mathlib.Core.List.{List}
 use lib.Dec.{eqb, leb}
-use lib.ListN.{getD}
 use Rattle.notation.specs.Choice.{if_then_else_}
 use Rattle.sizes.specs.Sizes.{variables}
 use Rattle.refusals.specs.Refusals.{accepted, refusedRegister}
@@ -16,6 +15,7 @@ use Rattle.variable_records.specs.Records.{placedAt}
 use Rattle.variable_records.specs.Rows.{recordAt, recordPut, isTemporary}
 use Rattle.shallow_temp_mappings.specs.Mappings.{unmapped, mappedAt, mappedWith}
 use Rattle.temp_var_data.specs.Uses.{usesOf, containsUse, useCode, lastContext}
+use Rattle.register_sets.specs.RegisterSets.{setAt}
 use Rattle.allocator_state.specs.declared.Counters.{Counters}
 use Rattle.allocator_state.specs.Counters.{withInUse}
 use Rattle.choice.specs.declared.Chosen.{Chosen}
@@ -24,10 +24,6 @@ use Rattle.choice.specs.Choice.{chosen}
 use Rattle.evacuation.specs.declared.Hint.{Hint}
 use Rattle.evacuation.specs.declared.Hint.the-variants.{Stays, Moves, NoRegister as Nowhere}
 use Rattle.evacuation.specs.declared.Reached.{Reached}
-
--- a variable's set; a number of no variable is taken modulo the number of variables
-abbrev pub setAt : List ℕ → ℕ → ℕ
-setAt sets v = getD sets (v % variables) 0
 
 -- rule 8.3: the no-use set is avoided
 abbrev pub allocWithCr : Counters → List ℕ → List ℕ → List ℕ → ℕ → Chosen

@@ -1,7 +1,6 @@
 // The choice of a register for a variable by its sets, and an argument's register emptied of another variable's value.
 ghost use mathlib.Core.Path.{_≡_};
 ghost use Rattle.evacuation.specs.Evacuation.{
-  setAt,
   allocWithCr,
   allocWithCa,
   sets,
@@ -12,25 +11,15 @@ ghost use Rattle.evacuation.specs.Evacuation.{
   goingOn,
 };
 use allocator_state::Counters;
-use bit_set::BitSet;
 use choice::Chosen;
 use code_deque::CodeDeque;
+use register_sets::RegisterSets;
 use registers::RegType;
 use shallow_temp_mappings::Mappings;
 use sizes::VARIABLES;
 use temp_var_data::UseCounts;
 use temp_var_data::UseSets;
 use variable_records::Records;
-
-// A set of registers for each variable.
-pub type RegisterSets = [u64; VARIABLES];
-
-// The set of a variable. A number of no variable is taken modulo the number of variables.
-fn set_at(sets: &RegisterSets, v: u32) -> BitSet
-    ensures { λ r. ⌜ r ≡ setAt (now (sets .entry)) v ⌝ }
-{
-    sets[(v % VARIABLES as u32) as usize]
-}
 
 // The register for a variable that may take one of its conflict set.
 pub fn alloc_with_cr(
@@ -43,7 +32,7 @@ pub fn alloc_with_cr(
     ensures { λ r. ⌜ r ≡ allocWithCr counters (now («use_sets» .entry)) (now («use_counts» .entry)) (now («no_use» .entry)) v ⌝ }
 {
     let use_set = temp_var_data::uses_of(use_sets, use_counts, v);
-    choice::choose(counters, use_set, set_at(no_use, v))
+    choice::choose(counters, use_set, register_sets::load(no_use, v))
 }
 
 // The register for a variable that avoids its conflict set too.
@@ -58,7 +47,10 @@ pub fn alloc_with_ca(
     ensures { λ r. ⌜ r ≡ allocWithCa counters (now («use_sets» .entry)) (now («use_counts» .entry)) (now («no_use» .entry)) (now (conflict .entry)) v ⌝ }
 {
     let use_set = temp_var_data::uses_of(use_sets, use_counts, v);
-    let avoided = bit_set::union_with(set_at(no_use, v), set_at(conflict, v));
+    let avoided = bit_set::union_with(
+        register_sets::load(no_use, v),
+        register_sets::load(conflict, v),
+    );
     choice::choose(counters, use_set, avoided)
 }
 

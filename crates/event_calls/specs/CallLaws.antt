@@ -24,15 +24,15 @@ use Rattle.event_lines.specs.EventLinesLaws.{list-read}
 use Rattle.debray_allocator.specs.declared.State.{State}
 use Rattle.debray_allocator.specs.declared.Answer.{Answer}
 use Rattle.debray_allocator.specs.DebrayAllocator.{refusedWith, stepped}
-use Rattle.answers.specs.Answers.{endText}
-use Rattle.answers.specs.AnswersLaws.{longest, answer-short, end-short, added}
+use Rattle.answers.specs.Answers.{textOf, endText}
+use Rattle.answers.specs.AnswersLaws.{longest, text-short, end-short, added}
 use Rattle.answered.specs.declared.Answered.{Answered}
 use Rattle.answered.specs.declared.Answered.the-variants.{Written, Refused}
 use Rattle.answered.specs.Answered.{filledBy}
 use Rattle.event_sheets.specs.EventSheets.{maxRegAllocated, numPermVars, ended, saidAnswer, lineAnswer, answeredBy}
 use Rattle.valid_states.specs.ValidStates.{isValid}
 use Rattle.event_calls.specs.declared.Called.{Called}
-use Rattle.event_calls.specs.EventCalls.{partsAnswer, bytesAnswer, textOf, refusedCall, calledBy, called, callFilled, lastAnswered, lastFilled}
+use Rattle.event_calls.specs.EventCalls.{partsAnswer, bytesAnswer, refusedCall, calledBy, called, callFilled, lastAnswered, lastFilled}
 
 -- ---- A line
 
@@ -210,7 +210,7 @@ module _ (s : State) (bytes out : List ℕ) where
         {aside kept : List ℕ} {count : ℕ}
         (good : a .refusal ≤ 0) (scratch : length aside ≡ longest) (put : Put aside 0 (textOf a) count kept) where
       fits : length (textOf a) ≤ length aside
-      fits = omega (arith, scratch, answer-short (a .code) (a .at))
+      fits = omega (arith, scratch, text-short a)
 
       -- room last
       pub call-longer :

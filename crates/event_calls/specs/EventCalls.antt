@@ -11,7 +11,7 @@ use Rattle.split.specs.Split.{lineFeed, split}
 use Rattle.debray_allocator.specs.declared.State.{State}
 use Rattle.debray_allocator.specs.declared.Answer.{Answer}
 use Rattle.debray_allocator.specs.DebrayAllocator.{refusedWith}
-use Rattle.answers.specs.Answers.{answerText}
+use Rattle.answers.specs.Answers.{textOf}
 use Rattle.answered.specs.declared.Answered.{Answered}
 use Rattle.answered.specs.declared.Answered.the-variants.{Written, Refused}
 use Rattle.answered.specs.Answered.{filledBy}
@@ -30,10 +30,6 @@ partsAnswer s (line ∷ ((byte ∷ more) ∷ others)) = refusedWith s refusedFor
 
 unfoldable pub bytesAnswer : State → List ℕ → Answer
 bytesAnswer s bytes = partsAnswer s (split lineFeed bytes)
-
--- what the event prints
-abbrev pub textOf : Answer → List ℕ
-textOf a = answerText (a .code) (a .at)
 
 -- ---- The new state and the answer
 

@@ -13,6 +13,7 @@ use Rattle.refusals.specs.Refusals.{refusedSize, refusedFull, refusedRoom}
 use Rattle.sizes.specs.Sizes.{sheetBytes}
 use Rattle.debray_allocator.specs.declared.State.{State}
 use Rattle.debray_allocator.specs.declared.Answer.{Answer}
+use Rattle.answers.specs.Answers.{textOf}
 use Rattle.answered.specs.declared.Answered.{Answered}
 use Rattle.answered.specs.declared.Answered.the-variants.{Written, Refused}
 use Rattle.answered.specs.Answered.{filledBy}
@@ -20,7 +21,7 @@ use Rattle.answered.specs.AnsweredLaws.{Within, filledBy-length}
 use Rattle.event_sheets.specs.EventSheets.{ended, answeredBy}
 use Rattle.valid_states.specs.ValidStates.{isValid}
 use Rattle.event_calls.specs.declared.Called.{Called}
-use Rattle.event_calls.specs.EventCalls.{bytesAnswer, textOf, refusedCall, calledBy, called, callFilled, lastAnswered, lastFilled}
+use Rattle.event_calls.specs.EventCalls.{bytesAnswer, refusedCall, calledBy, called, callFilled, lastAnswered, lastFilled}
 
 -- ---- No second answer fits (rule 25.2)
 

@@ -9,11 +9,12 @@ use Rattle.refusals.specs.Refusals.{accepted}
 use Rattle.sizes.specs.Sizes.{sheetBytes}
 use Rattle.split.specs.Split.{lineFeed}
 use Rattle.debray_allocator.specs.declared.State.{State}
+use Rattle.answers.specs.Answers.{textOf}
 use Rattle.answered.specs.declared.Answered.{Answered}
 use Rattle.answered.specs.declared.Answered.the-variants.{Written, Refused}
 use Rattle.event_sheets.specs.EventSheets.{Ran, refusedAt, behind, ended, lineAnswer}
 use Rattle.valid_states.specs.ValidStates.{isValid}
-use Rattle.event_calls.specs.EventCalls.{textOf, called, callFilled, lastAnswered, lastFilled}
+use Rattle.event_calls.specs.EventCalls.{called, callFilled, lastAnswered, lastFilled}
 
 -- a line as a call takes it
 abbrev pub withFeed : List ℕ → List ℕ

@@ -14,22 +14,25 @@ use Rattle.sizes.specs.Sizes.{sheetBytes}
 use Rattle.split.specs.Split.{lineFeed, split, inFront, joined}
 use Rattle.split.specs.SplitLaws.{split-some}
 use Rattle.split.specs.SplitTrips.{free, allFree, allFree-split, split-joined, joined-split}
+use Rattle.events.specs.declared.Event.{Event}
 use Rattle.debray_allocator.specs.declared.State.{State}
 use Rattle.debray_allocator.specs.declared.Answer.{Answer}
 use Rattle.debray_allocator.specs.State.{freshState}
-use Rattle.debray_allocator.specs.DebrayAllocator.{refusedWith}
+use Rattle.debray_allocator.specs.DebrayAllocator.{refusedWith, stepped}
 use Rattle.event_lines.specs.declared.Line.{Line}
 use Rattle.event_lines.specs.declared.Line.the-variants.{Malformed, Says}
 use Rattle.event_lines.specs.EventLines.{lineSays, lineList}
-use Rattle.answers.specs.AnswersLaws.{longest, answer-short, end-short}
+use Rattle.answers.specs.Answers.{textOf}
+use Rattle.answers.specs.AnswersLaws.{longest, text-short, end-short}
 use Rattle.answered.specs.Answered.{filledBy}
 use Rattle.event_sheets.specs.EventSheets.{refusedAt, behind, maxRegAllocated, numPermVars, ended, saidAnswer, lineAnswer, lastRan, lineRan, ran, sheetRan}
 use Rattle.event_sheets.specs.RunningLaws.{ran-refused, ran-accepted}
 use Rattle.valid_states.specs.ValidStates.{isValid}
 use Rattle.valid_states.specs.ValidStatesLaws.{fresh-valid}
 use Rattle.valid_stays.specs.Fits.{Full}
-use Rattle.valid_stays.specs.ValidStays.{valid-stays, lengths-stay, full-fresh}
-use Rattle.event_calls.specs.EventCalls.{partsAnswer, bytesAnswer, textOf, calledBy, called, callFilled, lastFilled}
+use Rattle.valid_stays.specs.ValidStays.{valid-stays, lengths-stay}
+use Rattle.valid_stays.specs.Reachable.{Reachable, fresh, reachable-valid, reachable-step}
+use Rattle.event_calls.specs.EventCalls.{partsAnswer, bytesAnswer, calledBy, called, callFilled, lastFilled}
 use Rattle.event_calls.specs.CallLaws.{called-valid, by-refused, by-written, last-fits}
 use Rattle.event_calls.specs.Fold.{withFeed, gathered, nothingMore, fed, allValid, linesFit, allWithin}
 
@@ -209,29 +212,39 @@ short-within room h [] s =
     le-leb _ _ n
 short-within room h (line ∷ lines) s =
     let a = lineAnswer s line in
-    let n : length (textOf a) ≤ room = omega (arith, answer-short (a .code) (a .at)) in
+    let n : length (textOf a) ≤ room = omega (arith, text-short a) in
     simp (le-leb _ _ n, short-within room h lines (a .state))
 
--- every state is valid where the first is, since a valid state stays valid
-said-valid :
-    (s : State) → Full s → isValid s ≡ true → (said : Line) (list : List ℕ)
-    → (Full (saidAnswer s said list .state)) × (isValid (saidAnswer s said list .state) ≡ true)
-unfolding refusedWith
-said-valid s full valid Malformed list = (full, valid)
-said-valid s full valid (Says event count) list = (lengths-stay s full valid event list, valid-stays s full valid event list)
+-- what holds of a state, and after every event, holds after every line, since one that has no form changes nothing
+module _
+    (P : State → Type 0) (s : State) (holds : P s)
+    (stays : (event : Event) (list : List ℕ) → P (stepped s event list .state)) where
+  said-keeps : (said : Line) (list : List ℕ) → P (saidAnswer s said list .state)
+  unfolding refusedWith
+  said-keeps Malformed list = holds
+  said-keeps (Says event count) list = stays event list
 
+  line-keeps : (line : List ℕ) → P (lineAnswer s line .state)
+  unfolding lineAnswer
+  line-keeps line = said-keeps (lineSays line) (lineList line)
+
+-- rule 17.7: so any valid state stays valid
 pub line-valid :
     (s : State) → Full s → isValid s ≡ true → (line : List ℕ)
     → (Full (lineAnswer s line .state)) × (isValid (lineAnswer s line .state) ≡ true)
-unfolding lineAnswer
-line-valid s full valid line = said-valid s full valid (lineSays line) (lineList line)
+line-valid s full valid =
+    line-keeps (λ s. (Full s) × (isValid s ≡ true)) s (full, valid)
+    (λ event list. (lengths-stay s full valid event list, valid-stays s full valid event list))
 
-pub lines-valid : (lines : List (List ℕ)) (s : State) → Full s → isValid s ≡ true → allValid s lines ≡ true
+-- and a reachable one reachable
+pub line-reachable : {s : State} → Reachable s → (line : List ℕ) → Reachable (lineAnswer s line .state)
+line-reachable {s} r = line-keeps Reachable s r (reachable-step r)
+
+-- so every state on the way from a fresh clause is valid
+pub lines-valid : (lines : List (List ℕ)) {s : State} → Reachable s → allValid s lines ≡ true
 unfolding allValid
-lines-valid [] s full valid = valid
-lines-valid (line ∷ lines) s full valid =
-    let after = line-valid s full valid line in
-    simp (valid, lines-valid lines (lineAnswer s line .state) (after .0) (after .1))
+lines-valid [] r = reachable-valid r
+lines-valid (line ∷ lines) r = simp (reachable-valid r, lines-valid lines (line-reachable r line))
 
 -- rule 17.8: so a host that lends room for the longest text is answered as the sheet is, where that is not too long
 pub fold-is-sheet :
@@ -239,6 +252,6 @@ pub fold-is-sheet :
     → fed freshState out 1 (split lineFeed text) ≡ sheetRan (withFeed text)
 fold-is-sheet text out fits h =
     fed-lines out text
-    (lines-valid (split lineFeed text) freshState full-fresh fresh-valid)
+    (lines-valid (split lineFeed text) fresh)
     (lines-fit text fits)
     (short-within (length out) h (split lineFeed text) freshState)

@@ -54,7 +54,7 @@ fn step_read(state: State, line: &[u8], list: &mut [u32]) -> Answer
     let said = event_lines::read_line(line, list);
     match said {
         Line::Malformed => malformed(state),
-        Line::Says(event, count) => debray_allocator::step(state, event, &list[0..count]),
+        Line::Says(event, count) => state_step::step(state, event, &list[0..count]),
     }
 }
 

@@ -4,7 +4,7 @@ use mathlib.Core.Path.{_≡_, refl}
 use mathlib.Core.List.{List, [], _∷_, map}
 use Rattle.notation.specs.Text.{bytes}
 use Rattle.split.specs.Split.{before, after, split, inFront}
-use Rattle.words.specs.Words.{same, codeAmong}
+use Rattle.words.specs.Words.{same}
 use Rattle.numbers.specs.Numbers.{numberOf, isNumber, allDigits, isDigit, valueFrom, needlessZero}
 use Rattle.forms.specs.declared.GenContext.the-variants.{Head as InHead, Mid, Last}
 use Rattle.forms.specs.declared.Level.the-variants.{Root, Shallow, Deep}
@@ -15,8 +15,9 @@ use Rattle.events.specs.Events.{noVariable}
 use Rattle.event_fields.specs.EventFields.{targetOf, levelOf, contextOf, useIn, useOf, noUse, noSuchVariable, variableEntry, argumentOf}
 use Rattle.event_lines.specs.declared.Line.{Line}
 use Rattle.event_lines.specs.declared.Line.the-variants.{Malformed, Says}
-use Rattle.event_lines.specs.Codes.{wordCode, saidAmong}
-use Rattle.event_lines.specs.EventLines.{oneNumber, twoNumbers, threeNumbers, bareLine, anonLine, markOf, markLine, allEntries, counted, leading, usesCount, usesList, tempLine, tempList, closeLine, closeList, listLine, saidBy, entriesBy, fieldsSay, fieldsList, lineSays, lineList}
+use Rattle.event_lines.specs.LineForms.{endSays, fieldSays, allEntries, listSays, leading, usesIn, usesSay, usesList}
+use Rattle.event_lines.specs.Words.{lineWords}
+use Rattle.event_lines.specs.EventLines.{wordAmong, fieldsSay, fieldsList, lineSays, lineList}
 
 -- each word, in the order of its rules
 abbrev wellFormed : List (List ℕ × Line)
@@ -78,13 +79,13 @@ lists =
     ∷ []
 
 pub lines-read : map (λ (e : List ℕ × Line). lineSays (e .0)) wellFormed ≡ map (λ (e : List ℕ × Line). e .1) wellFormed
-unfolding lineSays lineList fieldsSay fieldsList split inFront saidBy entriesBy wordCode codeAmong same bareLine saidAmong oneNumber twoNumbers threeNumbers markLine markOf anonLine listLine tempLine tempList usesCount usesList closeLine closeList counted allEntries leading numberOf isNumber allDigits isDigit valueFrom needlessZero targetOf levelOf contextOf useOf useIn before after argumentOf variableEntry
+unfolding lineSays lineList fieldsSay fieldsList wordAmong lineWords split inFront same endSays fieldSays listSays allEntries leading usesIn usesSay usesList numberOf isNumber allDigits isDigit valueFrom needlessZero targetOf levelOf contextOf useOf useIn before after argumentOf variableEntry
 lines-read = refl
 
 pub lines-refused : map lineSays malformed ≡ map (λ (line : List ℕ). Malformed) malformed
-unfolding lineSays lineList fieldsSay fieldsList split inFront saidBy entriesBy wordCode codeAmong same bareLine saidAmong oneNumber twoNumbers threeNumbers markLine markOf anonLine listLine tempLine tempList usesCount usesList closeLine closeList counted allEntries leading numberOf isNumber allDigits isDigit valueFrom needlessZero targetOf levelOf contextOf useOf useIn before after argumentOf variableEntry
+unfolding lineSays lineList fieldsSay fieldsList wordAmong lineWords split inFront same endSays fieldSays listSays allEntries leading usesIn usesSay usesList numberOf isNumber allDigits isDigit valueFrom needlessZero targetOf levelOf contextOf useOf useIn before after argumentOf variableEntry
 lines-refused = refl
 
 pub lists-read : map (λ (e : List ℕ × List ℕ). lineList (e .0)) lists ≡ map (λ (e : List ℕ × List ℕ). e .1) lists
-unfolding lineSays lineList fieldsSay fieldsList split inFront saidBy entriesBy wordCode codeAmong same bareLine saidAmong oneNumber twoNumbers threeNumbers markLine markOf anonLine listLine tempLine tempList usesCount usesList closeLine closeList counted allEntries leading numberOf isNumber allDigits isDigit valueFrom needlessZero targetOf levelOf contextOf useOf useIn before after argumentOf variableEntry
+unfolding lineSays lineList fieldsSay fieldsList wordAmong lineWords split inFront same endSays fieldSays listSays allEntries leading usesIn usesSay usesList numberOf isNumber allDigits isDigit valueFrom needlessZero targetOf levelOf contextOf useOf useIn before after argumentOf variableEntry
 lists-read = refl

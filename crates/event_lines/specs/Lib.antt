@@ -1,5 +1,9 @@
-pub mod Codes
+pub mod LineForms
+pub mod Words
 pub mod EventLines
-pub mod ReadLaws
 pub mod EventLinesLaws
 pub mod Examples
+pub mod Reading
+pub mod ReadLaws
+pub mod WordsLaws
+pub mod RowLaws

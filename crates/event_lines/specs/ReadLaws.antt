@@ -2,21 +2,22 @@
 use Prim.Native.Nat.{ℕ, _+_, _-_, _≤_, _<_}
 use mathlib.Core.Path.{_≡_, refl, sym, ap, _∙_}
 use mathlib.Core.Bool.{true, false}
-use mathlib.Core.List.{List, [], _∷_}
+use mathlib.Core.List.{List, [], _∷_, tail}
 use native.Mathlib.Omega.{arith}
 use lib.Dec.{leb, ltb}
 use lib.ListN.{length, take, drop, set, length-drop, drop-of-length-le}
 use lib.Seq.{take-nil, drop-nil, take-all, set-out}
 use borrow.Author.Tests.{le-leb, lt-leb, leb-true, leb-false, ltb-true, ltb-false, ne-eqb}
+use Rattle.notation.specs.Choice.{if_then_else_}
 use Rattle.notation.specs.Text.{bytes}
-use Rattle.split.specs.Split.{tab, before, split}
-use Rattle.split.specs.SplitLaws.{take-before}
+use Rattle.split.specs.Split.{tab, split}
 use Rattle.words.specs.Words.{same}
+use Rattle.numbers.specs.declared.Number.{Number}
 use Rattle.numbers.specs.declared.Number.the-variants.{Of, Malformed as noNumber}
 use Rattle.numbers.specs.Numbers.{numberOf}
 use Rattle.numbers.specs.ReadLaws.{number-empty}
 use Rattle.fields.specs.Fields.{fieldEnd, fieldsLeft}
-use Rattle.fields.specs.FieldsLaws.{left-none, left-some, left-last, end-within, line-fields}
+use Rattle.fields.specs.FieldsLaws.{left-none, left-some, left-last, end-within}
 use Rattle.printing.specs.Printing.{printed}
 use Rattle.printing.specs.PrintingLaws.{put-nothing, put-one, put-past, put-then}
 use Rattle.forms.specs.declared.GenContext.{GenContext}
@@ -24,13 +25,21 @@ use Rattle.forms.specs.declared.Level.{Level}
 use Rattle.targets.specs.declared.Target.{Target}
 use Rattle.events.specs.declared.Entries.{Entries}
 use Rattle.events.specs.declared.Entries.the-variants.{Uses, Variables}
-use Rattle.events.specs.declared.Event.the-variants.{Anon}
-use Rattle.event_fields.specs.declared.ContextField.the-variants.{Malformed as noContext}
+use Rattle.events.specs.declared.Event.{Event}
+use Rattle.events.specs.declared.Event.the-variants.{Temp, Close}
+use Rattle.event_fields.specs.declared.TargetField.{TargetField}
+use Rattle.event_fields.specs.declared.TargetField.the-variants.{Of as ofTarget, Malformed as noTarget}
+use Rattle.event_fields.specs.declared.LevelField.{LevelField}
+use Rattle.event_fields.specs.declared.LevelField.the-variants.{Of as ofLevel, Malformed as noLevel}
+use Rattle.event_fields.specs.declared.ContextField.{ContextField}
+use Rattle.event_fields.specs.declared.ContextField.the-variants.{Of as ofContext, Malformed as noContext}
 use Rattle.event_fields.specs.EventFields.{targetOf, levelOf, contextOf, entryOf}
+use Rattle.event_lines.specs.declared.Line.{Line}
 use Rattle.event_lines.specs.declared.Line.the-variants.{Malformed, Says}
+use Rattle.event_lines.specs.declared.Counted.{Counted}
 use Rattle.event_lines.specs.declared.Counted.the-variants.{Of as ofCount, Malformed as noCount}
-use Rattle.event_lines.specs.Codes.{wordCode, saidAmong, bareSaid}
-use Rattle.event_lines.specs.EventLines.{oneNumber, paired, twoNumbers, tripled, threeNumbers, bareLine, withOne, withTwo, withThree, anonLine, marked, markLine, allEntries, leading, counted, comma, usesCount, usesList, recorded, tempLine, tempList, closed, closeLine, closeList, listLine, saidBy, entriesBy, fieldsSay, fieldsList}
+use Rattle.event_lines.specs.LineForms.{Form, endSays, fieldSays, ifNumber, ifTarget, ifLevel, ifContext, number, target, level, context, allEntries, listSays, leading, comma, usesIn, usesSay, usesList}
+use Rattle.event_lines.specs.Reading.{oneNumber, paired, twoNumbers, tripled, threeNumbers, saidAmong, bareSaid, bareLine, withOne, withTwo, withThree, markOf, marked, markLine, counted, usesCount, recorded, tempLine, tempList, closed, closeLine, closeList, listLine, saidBy, entriesBy}
 
 -- the next field, and what is left behind it
 abbrev pub next : ℕ → List ℕ → List ℕ
@@ -38,10 +47,6 @@ next mark rest = take (fieldEnd mark rest - 1) (drop 1 rest)
 
 abbrev pub behind : ℕ → List ℕ → List ℕ
 behind mark rest = drop (fieldEnd mark rest) rest
-
-context-empty : contextOf [] ≡ noContext
-unfolding contextOf same
-context-empty = refl
 
 -- ---- Numbers
 
@@ -79,34 +84,69 @@ module _ (code : ℕ) (rest : List ℕ) where
   unfolding bareLine
   bare-some h = rw (left-some tab rest (omega arith))
 
-module _ (target : Target) (level : Level) (context : GenContext) (rest : List ℕ) where
-  pub anon-none : length rest ≡ 0 → anonLine target level context (fieldsLeft tab rest) ≡ Says (Anon target level context) 0
-  unfolding anonLine
-  anon-none h = rw (left-none tab rest h)
+module _ (event : Event) (rest : List ℕ) where
+  pub end-none : length rest ≡ 0 → endSays event (fieldsLeft tab rest) ≡ Says event 0
+  unfolding endSays
+  end-none h = rw (left-none tab rest h)
 
-  pub anon-some : (length rest ≡ 0 → ⊥) → anonLine target level context (fieldsLeft tab rest) ≡ Malformed
-  unfolding anonLine
-  anon-some h = rw (left-some tab rest (omega arith))
+  pub end-some : (length rest ≡ 0 → ⊥) → endSays event (fieldsLeft tab rest) ≡ Malformed
+  unfolding endSays
+  end-some h = rw (left-some tab rest (omega arith))
+
+-- ---- A field and the others behind it
+
+-- where none is left, the next one is taken to be empty
+field-step :
+    {A B : Type 0} (read : List ℕ → (B → Line) → Line) (others : Form A) → ((line : B → Line) → read [] line ≡ Malformed)
+    → (event : B → A) (rest : List ℕ)
+    → fieldSays read others event (fieldsLeft tab rest)
+    ≡ read (next tab rest) (λ b. others .says (event b) (fieldsLeft tab (behind tab rest)))
+unfolding fieldSays
+field-step read others empty event [] = rw (left-none tab [] refl, take-nil {A = ℕ} (fieldEnd tab [] - 1)) (sym (empty _))
+field-step read others empty event (c ∷ cs) = rw (left-some tab (c ∷ cs) (omega arith))
+
+module _ {A : Type 0} (others : Form A) where
+  number-step :
+      (event : ℕ → A) (rest : List ℕ)
+      → number others .says event (fieldsLeft tab rest)
+      ≡ ifNumber (numberOf (next tab rest)) (λ n. others .says (event n) (fieldsLeft tab (behind tab rest)))
+  number-step = field-step _ others (λ line. rw (number-empty [] refl))
+
+  target-step :
+      (event : Target → A) (rest : List ℕ)
+      → target others .says event (fieldsLeft tab rest)
+      ≡ ifTarget (targetOf (next tab rest)) (λ t. others .says (event t) (fieldsLeft tab (behind tab rest)))
+  unfolding targetOf same
+  target-step = field-step _ others (λ line. refl)
+
+  level-step :
+      (event : Level → A) (rest : List ℕ)
+      → level others .says event (fieldsLeft tab rest)
+      ≡ ifLevel (levelOf (next tab rest)) (λ l. others .says (event l) (fieldsLeft tab (behind tab rest)))
+  unfolding levelOf same
+  level-step = field-step _ others (λ line. refl)
+
+  context-step :
+      (event : GenContext → A) (rest : List ℕ)
+      → context others .says event (fieldsLeft tab rest)
+      ≡ ifContext (contextOf (next tab rest)) (λ c. others .says (event c) (fieldsLeft tab (behind tab rest)))
+  unfolding contextOf same
+  context-step = field-step _ others (λ line. refl)
 
 -- ---- Target, level, context
 
-mark-context :
-    (code : ℕ) (target level rest : List ℕ)
-    → markLine code (target ∷ (level ∷ fieldsLeft tab rest))
-    ≡ marked code (contextOf (next tab rest)) (levelOf level) (targetOf target) (fieldsLeft tab (behind tab rest))
-unfolding markLine
-mark-context code target level [] = rw (left-none tab [] refl, take-nil {A = ℕ} (fieldEnd tab [] - 1), context-empty)
-mark-context code target level (c ∷ cs) = rw (left-some tab (c ∷ cs) (omega arith))
-
-mark-level :
-    (code : ℕ) (target rest : List ℕ)
-    → markLine code (target ∷ fieldsLeft tab rest)
-    ≡ marked code (contextOf (next tab (behind tab rest))) (levelOf (next tab rest)) (targetOf target) (fieldsLeft tab (behind tab (behind tab rest)))
-unfolding markLine
-mark-level code target [] =
-    rw (left-none tab [] refl, drop-nil {A = ℕ} (fieldEnd tab []), take-nil {A = ℕ} (fieldEnd tab [] - 1), context-empty)
-mark-level code target (c ∷ cs) =
-    rw (left-some tab (c ∷ cs) (omega arith)) (mark-context code target (next tab (c ∷ cs)) (behind tab (c ∷ cs)))
+-- the code looks at the context first
+marked-read :
+    (code : ℕ) (c : ContextField) (l : LevelField) (t : TargetField) (fields : List (List ℕ))
+    → ifTarget t (λ t. ifLevel l (λ l. ifContext c (λ c. markOf code t l c fields))) ≡ marked code c l t fields
+marked-read code (ofContext c) (ofLevel l) (ofTarget t) fields = refl
+marked-read code (ofContext c) (ofLevel l) noTarget fields = refl
+marked-read code (ofContext c) noLevel (ofTarget t) fields = refl
+marked-read code (ofContext c) noLevel noTarget fields = refl
+marked-read code noContext (ofLevel l) (ofTarget t) fields = refl
+marked-read code noContext (ofLevel l) noTarget fields = refl
+marked-read code noContext noLevel (ofTarget t) fields = refl
+marked-read code noContext noLevel noTarget fields = refl
 
 pub mark-step :
     (code : ℕ) (rest : List ℕ)
@@ -116,11 +156,11 @@ pub mark-step :
     (levelOf (next tab (behind tab rest)))
     (targetOf (next tab rest))
     (fieldsLeft tab (behind tab (behind tab (behind tab rest))))
-unfolding markLine
-mark-step code [] =
-    rw (left-none tab [] refl, drop-nil {A = ℕ} (fieldEnd tab []), drop-nil {A = ℕ} (fieldEnd tab []), take-nil {A = ℕ} (fieldEnd tab [] - 1), context-empty)
-mark-step code (c ∷ cs) =
-    rw (left-some tab (c ∷ cs) (omega arith)) (mark-level code (next tab (c ∷ cs)) (behind tab (c ∷ cs)))
+mark-step code rest =
+    let second = behind tab rest in
+    let third = behind tab second in
+    simp (target-step, level-step, context-step)
+    (marked-read code (contextOf (next tab third)) (levelOf (next tab second)) (targetOf (next tab rest)) (fieldsLeft tab (behind tab third)))
 
 -- ---- Uses
 
@@ -148,32 +188,46 @@ uses-other-list (c ∷ cs) h =
 
 module _ (rest : List ℕ) (whole : fieldEnd tab rest ≡ length rest) where
   pub uses-none : same (next tab rest) (bytes "-") ≡ true → usesCount (fieldsLeft tab rest) ≡ ofCount 0
-  unfolding usesCount
+  unfolding usesCount usesIn counted allEntries
   uses-none e = rw (left-last tab rest whole, e)
 
   pub uses-none-list : same (next tab rest) (bytes "-") ≡ true → usesList (fieldsLeft tab rest) ≡ []
-  unfolding usesList
+  unfolding usesList usesIn leading
   uses-none-list e = rw (left-last tab rest whole, e)
 
   pub uses-some :
       same (next tab rest) (bytes "-") ≡ false → usesCount (fieldsLeft tab rest) ≡ counted Uses (fieldsLeft comma rest)
-  unfolding usesCount
+  unfolding usesCount usesIn
   uses-some e = rw (left-last tab rest whole, e, uses-parts rest whole)
 
   pub uses-some-list :
       same (next tab rest) (bytes "-") ≡ false → usesList (fieldsLeft tab rest) ≡ leading Uses (fieldsLeft comma rest)
-  unfolding usesList
+  unfolding usesList usesIn
   uses-some-list e = rw (left-last tab rest whole, e, uses-parts rest whole)
 
 -- ---- `temp` and `close`
 
-temp-count :
-    (context rest : List ℕ)
-    → tempLine (context ∷ fieldsLeft tab rest)
-    ≡ recorded (numberOf (next tab rest)) (contextOf context) (usesCount (fieldsLeft tab (behind tab rest)))
-unfolding tempLine
-temp-count context [] = rw (left-none tab [] refl, take-nil {A = ℕ} (fieldEnd tab [] - 1), number-empty [] refl)
-temp-count context (c ∷ cs) = rw (left-some tab (c ∷ cs) (omega arith))
+module _ (line : Counted → Line) (event : Event) (some : (n : ℕ) → line (ofCount n) ≡ Says event n) (none : line noCount ≡ Malformed) where
+  pub counted-read : (entries : Entries) (parts : List (List ℕ)) → line (counted entries parts) ≡ listSays entries event parts
+  unfolding counted listSays
+  counted-read entries parts =
+      elim (allEntries entries parts) as
+      (λ t. line (if t then ofCount (length parts) else noCount) ≡ (if t then Says event (length parts) else Malformed))
+      [ true ↦ some (length parts) | false ↦ none ]
+
+  uses-read : (fields : List (List ℕ)) → line (usesCount fields) ≡ usesSay event fields
+  unfolding usesCount usesSay
+  uses-read [] = none
+  uses-read (field ∷ []) = counted-read Uses (usesIn field)
+  uses-read (field ∷ (next ∷ fields)) = none
+
+recorded-read :
+    (n : Number) (c : ContextField) (fields : List (List ℕ))
+    → recorded n c (usesCount fields) ≡ ifContext c (λ c. ifNumber n (λ n. usesSay (Temp c n) fields))
+recorded-read (Of n) (ofContext c) fields = uses-read (recorded (Of n) (ofContext c)) (Temp c n) (λ count. refl) refl fields
+recorded-read (Of n) noContext fields = refl
+recorded-read noNumber (ofContext c) fields = refl
+recorded-read noNumber noContext fields = refl
 
 pub temp-step :
     (rest : List ℕ)
@@ -182,30 +236,29 @@ pub temp-step :
     (numberOf (next tab (behind tab rest)))
     (contextOf (next tab rest))
     (usesCount (fieldsLeft tab (behind tab (behind tab rest))))
-unfolding tempLine
-temp-step [] =
-    rw (left-none tab [] refl, drop-nil {A = ℕ} (fieldEnd tab []), take-nil {A = ℕ} (fieldEnd tab [] - 1), number-empty [] refl)
-temp-step (c ∷ cs) = rw (left-some tab (c ∷ cs) (omega arith)) (temp-count (next tab (c ∷ cs)) (behind tab (c ∷ cs)))
+temp-step rest =
+    let second = behind tab rest in
+    simp (context-step, number-step)
+    (sym (recorded-read (numberOf (next tab second)) (contextOf (next tab rest)) (fieldsLeft tab (behind tab second))))
 
-temp-list-count : (context rest : List ℕ) → tempList (context ∷ fieldsLeft tab rest) ≡ usesList (fieldsLeft tab (behind tab rest))
-unfolding tempList usesList
-temp-list-count context [] = rw (drop-nil {A = ℕ} (fieldEnd tab []), left-none tab [] refl)
-temp-list-count context (c ∷ cs) = rw (left-some tab (c ∷ cs) (omega arith))
+-- the fields behind the next one
+left-tail : (rest : List ℕ) → tail (fieldsLeft tab rest) ≡ fieldsLeft tab (behind tab rest)
+left-tail [] = rw (drop-nil {A = ℕ} (fieldEnd tab []), left-none tab [] refl)
+left-tail (c ∷ cs) = rw (left-some tab (c ∷ cs) (omega arith))
 
 pub temp-list-step : (rest : List ℕ) → tempList (fieldsLeft tab rest) ≡ usesList (fieldsLeft tab (behind tab (behind tab rest)))
-unfolding tempList usesList
-temp-list-step [] = rw (drop-nil {A = ℕ} (fieldEnd tab []), drop-nil {A = ℕ} (fieldEnd tab []), left-none tab [] refl)
-temp-list-step (c ∷ cs) = rw (left-some tab (c ∷ cs) (omega arith)) (temp-list-count (next tab (c ∷ cs)) (behind tab (c ∷ cs)))
+temp-list-step rest = rw (left-tail rest, left-tail (behind tab rest))
+
+closed-read :
+    (m : Number) (fields : List (List ℕ)) → closed m (counted Variables fields) ≡ ifNumber m (λ d. listSays Variables (Close d) fields)
+closed-read (Of d) fields = counted-read (closed (Of d)) (Close d) (λ n. refl) refl Variables fields
+closed-read noNumber fields = refl
 
 pub close-step : (rest : List ℕ) → closeLine (fieldsLeft tab rest) ≡ closed (numberOf (next tab rest)) (counted Variables (fieldsLeft tab (behind tab rest)))
-unfolding closeLine
-close-step [] = rw (left-none tab [] refl, take-nil {A = ℕ} (fieldEnd tab [] - 1), number-empty [] refl)
-close-step (c ∷ cs) = rw (left-some tab (c ∷ cs) (omega arith))
+close-step rest = number-step _ Close rest ∙ sym (closed-read (numberOf (next tab rest)) (fieldsLeft tab (behind tab rest)))
 
 pub close-list-step : (rest : List ℕ) → closeList (fieldsLeft tab rest) ≡ leading Variables (fieldsLeft tab (behind tab rest))
-unfolding closeList leading
-close-list-step [] = rw (drop-nil {A = ℕ} (fieldEnd tab []), left-none tab [] refl)
-close-list-step (c ∷ cs) = rw (left-some tab (c ∷ cs) (omega arith))
+close-list-step rest = rw (left-tail rest)
 
 -- ---- The entries of a list
 
@@ -268,7 +321,7 @@ pub put-more :
     (list : List ℕ) (at n : ℕ) (ns : List ℕ) {after : List ℕ} → after ≡ set list at n → printed after (at + 1) ns ≡ printed list at (n ∷ ns)
 put-more list at n ns put = ap (λ l. printed l (at + 1) ns) put ∙ put-next list at n ns
 
--- ---- A line
+-- ---- All numbers of words
 
 pub said-unknown : (code : ℕ) (fields : List (List ℕ)) → code ≡ 0 → saidBy code fields ≡ Malformed
 unfolding saidBy bareLine saidAmong
@@ -320,21 +373,15 @@ module _ (code : ℕ) (fields : List (List ℕ)) where
       said-list (omega arith)
       ∙ simp (ne-eqb code 20 (λ e. omega arith), ne-eqb code 21 (λ e. omega arith), ne-eqb code 22 (λ e. omega arith))
 
-  -- a line without a list leaves the lent list as it is
-  pub put-no-entries : (list : List ℕ) → (20 ≤ code → 22 < code) → list ≡ printed list 0 (entriesBy code fields)
+  pub no-entries : (20 ≤ code → 22 < code) → entriesBy code fields ≡ []
   unfolding entriesBy
-  put-no-entries list outside =
+  no-entries outside =
       simp (
         ne-eqb code 20 (λ e. omega (arith, outside (omega arith))),
         ne-eqb code 21 (λ e. omega (arith, outside (omega arith))),
         ne-eqb code 22 (λ e. omega (arith, outside (omega arith))),
       )
-      (sym (put-none list 0))
 
-pub line-step : (line : List ℕ) → fieldsSay (split tab line) ≡ saidBy (wordCode (take (length (before tab line)) line)) (fieldsLeft tab (drop (length (before tab line)) line))
-unfolding fieldsSay
-line-step line = rw (line-fields line, take-before tab line)
-
-pub line-list-step : (line : List ℕ) → fieldsList (split tab line) ≡ entriesBy (wordCode (take (length (before tab line)) line)) (fieldsLeft tab (drop (length (before tab line)) line))
-unfolding fieldsList
-line-list-step line = rw (line-fields line, take-before tab line)
+  -- a line without a list leaves the lent list as it is
+  pub put-no-entries : (list : List ℕ) → (20 ≤ code → 22 < code) → list ≡ printed list 0 (entriesBy code fields)
+  put-no-entries list outside = rw (no-entries outside) (sym (put-none list 0))

@@ -6,22 +6,21 @@ ghost use Rattle.split.specs.Split.{tab};
 ghost use Rattle.words.specs.Words.{codeAmong};
 ghost use Rattle.fields.specs.Fields.{fieldsLeft};
 ghost use Rattle.printing.specs.Printing.{printed};
-ghost use Rattle.event_lines.specs.Codes.{
+ghost use Rattle.event_lines.specs.LineForms.{leading, usesList};
+ghost use Rattle.event_lines.specs.Reading.{
   wordCode,
   numberWords,
   otherWords,
-  bareSaid,
-  oneSaid,
-  twoSaid,
-};
-ghost use Rattle.event_lines.specs.EventLines.{
   oneNumber,
   paired,
   twoNumbers,
   tripled,
   threeNumbers,
+  bareSaid,
   bareLine,
+  oneSaid,
   withOne,
+  twoSaid,
   withTwo,
   withThree,
   varLine,
@@ -31,9 +30,7 @@ ghost use Rattle.event_lines.specs.EventLines.{
   marked,
   markLine,
   counted,
-  leading,
   usesCount,
-  usesList,
   recorded,
   tempLine,
   tempList,
@@ -44,9 +41,8 @@ ghost use Rattle.event_lines.specs.EventLines.{
   listLine,
   saidBy,
   entriesBy,
-  lineSays,
-  lineList,
 };
+ghost use Rattle.event_lines.specs.EventLines.{lineSays, lineList};
 use event_fields::ContextField;
 use event_fields::LevelField;
 use event_fields::TargetField;
@@ -84,8 +80,8 @@ enum Counted {
 
 // ---- Words
 
-// The number of a line's word: 1 to 6 stand alone, 7 to 16 have numbers behind them, 17 to 19 a term's place, and 20 to 22
-// a list; 0 is none of them.
+// The number of a line's word, its place in the table of words: 1 to 6 stand alone, 7 to 16 have numbers behind them, 17 to 19
+// a term's place, and 20 to 22 a list; 0 is none of them.
 fn word_code(word: &[u8]) -> u32
     ensures { λ r. ⌜ r ≡ wordCode (now (word .entry)) ⌝ }
 {

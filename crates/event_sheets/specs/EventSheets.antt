@@ -15,7 +15,7 @@ use Rattle.debray_allocator.specs.declared.State.{State}
 use Rattle.debray_allocator.specs.declared.Answer.{Answer}
 use Rattle.debray_allocator.specs.State.{freshState}
 use Rattle.debray_allocator.specs.DebrayAllocator.{refusedWith, stepped}
-use Rattle.answers.specs.Answers.{answerText, endText}
+use Rattle.answers.specs.Answers.{textOf, endText}
 use Rattle.answered.specs.declared.Answered.{Answered}
 use Rattle.answered.specs.declared.Answered.the-variants.{Written, Refused}
 use Rattle.answered.specs.Answered.{filledBy}
@@ -60,7 +60,7 @@ lastRan c number left = if ltb 0 (length left) then refusedAt number refusedForm
 unfoldable pub lineRan : ℕ → Answer → (State → Ran) → Ran
 lineRan number a others =
     if ltb 0 (a .refusal) then refusedAt number (a .refusal)
-    else behind (answerText (a .code) (a .at)) (others (a .state))
+    else behind (textOf a) (others (a .state))
 
 -- rule 16.1: from a state on, the lines from a number on; the last part is what stands behind the last LF
 unfoldable pub ran : State → ℕ → List (List ℕ) → Ran

@@ -17,8 +17,8 @@ use Rattle.split.specs.SplitLaws.{split-some, split-le}
 use Rattle.debray_allocator.specs.declared.State.{State}
 use Rattle.debray_allocator.specs.declared.Answer.{Answer}
 use Rattle.debray_allocator.specs.State.{freshState}
-use Rattle.answers.specs.Answers.{answerText}
-use Rattle.answers.specs.AnswersLaws.{longest, answer-short, end-short}
+use Rattle.answers.specs.Answers.{textOf}
+use Rattle.answers.specs.AnswersLaws.{longest, text-short, end-short}
 use Rattle.answered.specs.declared.Answered.{Answered}
 use Rattle.answered.specs.declared.Answered.the-variants.{Written, Refused}
 use Rattle.answered.specs.Answered.{filledBy}
@@ -64,7 +64,7 @@ abbrev pub lineFirst : Answer → Carried → Carried
 lineFirst a later =
     record {
       state = later .state;
-      text = answerText (a .code) (a .at) ++ later .text;
+      text = textOf a ++ later .text;
       accepts = not (ltb 0 (a .refusal)) && later .accepts;
     }
 
@@ -96,7 +96,7 @@ lines-in-order (line ∷ lines) s number next others h =
     let b = both-true (not (ltb 0 (lineAnswer s line .refusal))) (carriedLines (lineAnswer s line .state) lines .accepts) h in
     let good = ltb-false 0 (lineAnswer s line .refusal) (not-true _ (b .0)) in
     let later = lines-in-order lines (lineAnswer s line .state) (suc number) next others (b .1) in
-    let text = answerText (lineAnswer s line .code) (lineAnswer s line .at) in
+    let text = textOf (lineAnswer s line) in
     let n : suc number + length lines ≡ number + suc (length lines) = omega arith in
     ran-before s number line lines next others
     ∙ ran-accepted number _ (lineAnswer s line) good
@@ -138,7 +138,7 @@ ran-line (left ∷ []) s number =
     [ true ↦ omega arith | false ↦ omega arith ]
 ran-line (line ∷ (next ∷ parts)) s number =
     elim (ltb 0 (lineAnswer s line .refusal)) as
-    (λ t. (if t then refusedAt number (lineAnswer s line .refusal) else behind (answerText (lineAnswer s line .code) (lineAnswer s line .at)) (ran (lineAnswer s line .state) (suc number) (next ∷ parts))) .line ≤ number + suc (suc (length parts)) - 1) [
+    (λ t. (if t then refusedAt number (lineAnswer s line .refusal) else behind (textOf (lineAnswer s line)) (ran (lineAnswer s line .state) (suc number) (next ∷ parts))) .line ≤ number + suc (suc (length parts)) - 1) [
       | true ↦ omega arith
       | false ↦ omega (arith, ran-line (next ∷ parts) (lineAnswer s line .state) (suc number))
     ]
@@ -158,7 +158,7 @@ ran-short (next ∷ parts) line s number =
     let a = lineAnswer s line in
     let later = ran (a .state) (suc number) (next ∷ parts) in
     either (λ (r : Ran). length (r .text) ≤ longest * suc (suc (length parts))) (ltb 0 (a .refusal)) (omega arith)
-    (omega (arith, length-append (answerText (a .code) (a .at)) (later .text), answer-short (a .code) (a .at), ran-short parts next (a .state) (suc number)))
+    (omega (arith, length-append (textOf a) (later .text), text-short a, ran-short parts next (a .state) (suc number)))
 
 pub sheet-short : (sheet : List ℕ) → length (sheetRan sheet .text) ≤ longest * (length sheet + 1)
 unfolding sheetRan

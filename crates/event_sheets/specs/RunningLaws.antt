@@ -28,8 +28,8 @@ use Rattle.debray_allocator.specs.DebrayAllocator.{byRefusal, withCounters, ref
 use Rattle.debray_allocator.specs.DebrayAllocatorLaws.{stepped-refused, stepped-accepted}
 use Rattle.answers.specs.declared.Adding.{Adding}
 use Rattle.answers.specs.Adding.{Added}
-use Rattle.answers.specs.Answers.{answerText, endText}
-use Rattle.answers.specs.AnswersLaws.{answer-short}
+use Rattle.answers.specs.Answers.{textOf, endText}
+use Rattle.answers.specs.AnswersLaws.{text-short}
 use Rattle.event_sheets.specs.declared.Run.{Run}
 use Rattle.event_sheets.specs.EventSheets.{Ran, refusedAt, behind, maxRegAllocated, numPermVars, ended, saidAnswer, lineAnswer, lastRan, lineRan, ran, sheetRan}
 use Rattle.event_sheets.specs.Running.{saidActed, lineActed, wholeRan, told, toldBehind, Going}
@@ -96,7 +96,7 @@ module _ (number : ℕ) (others : State → Ran) where
 
   pub ran-accepted :
       (a : Answer) → a .refusal ≤ 0
-      → lineRan number a others ≡ behind (answerText (a .code) (a .at)) (others (a .state))
+      → lineRan number a others ≡ behind (textOf a) (others (a .state))
   unfolding lineRan
   ran-accepted a h = simp (le-ltb _ _ h)
 
@@ -138,7 +138,7 @@ module _ (s : State) (number : ℕ) (rest : List ℕ) where
     ran-good :
         b .refusal ≤ 0
         → ran s number (split lineFeed rest)
-        ≡ behind (answerText (b .code) (b .at)) (ran (b .state) (suc number) (split lineFeed (after lineFeed rest)))
+        ≡ behind (textOf b) (ran (b .state) (suc number) (split lineFeed (after lineFeed rest)))
     ran-good good =
         ran-more h
         ∙ ap (λ a. lineRan number a (λ next. ran next (suc number) (split lineFeed (after lineFeed rest)))) (sym (line-accepted s (before lineFeed rest) b e good))
@@ -286,14 +286,14 @@ module _
     pub going-on :
         {scratch next scratchAfter outAfter : List ℕ} {adding : Adding} {last : ℕ}
         → b .refusal ≤ 0
-        → Added scratch out at (answerText (b .code) (b .at)) adding scratchAfter outAfter
+        → Added scratch out at (textOf b) adding scratchAfter outAfter
         → next ≡ drop (end + 1) rest
         → last ≡ length (before lineFeed next)
         → Going sheet empty from (b .state) next last (number + 1) (count + adding .length) (adding .place) outAfter
     going-on {next = next} {outAfter = outAfter} {adding = adding} good added dropped last =
         let n : next ≡ after lineFeed rest = dropped ∙ ap (λ (k : ℕ). drop (k + 1) rest) (g .ends) ∙ drop-before lineFeed rest in
         let w = ran-good s number rest b found made good in
-        let text = answerText (b .code) (b .at) in
+        let text = textOf b in
         let later = ran (b .state) (suc number) (split lineFeed (after lineFeed rest)) in
         let same : ran (b .state) (number + 1) (split lineFeed next) ≡ later = ap₂ (λ k l. ran (b .state) k (split lineFeed l)) (add-one number) n in
         record {
@@ -310,5 +310,5 @@ module _
           room = put-length (added .put) ∙ g .room;
           ends = last;
           lines = omega (arith, ap length n, after-length lineFeed rest found, g .lines);
-          short = omega (arith, added .counted, answer-short (b .code) (b .at), g .short);
+          short = omega (arith, added .counted, text-short b, g .short);
         }

@@ -7,13 +7,13 @@ use lib.Dec.{eqb}
 use lib.ListN.{length, replicate, length-replicate}
 use Rattle.notation.specs.ChoiceLaws.{either}
 use Rattle.sizes.specs.Sizes.{variables, uses, registers, freedRegisters}
+use Rattle.registers.specs.Registers.{numberOfPlace}
 use Rattle.variable_records.specs.declared.Row.{Row}
 use Rattle.variable_records.specs.declared.VarAlloc.{VarAlloc}
 use Rattle.variable_records.specs.declared.VariableRecord.{VariableRecord}
 use Rattle.variable_records.specs.Records.{placeOf, placeOfAlloc}
 use Rattle.variable_records.specs.Rows.{rowCells, rowStart, rowAt, allocationOf, recordOf, recordAt, temporary, isTemporary}
 use Rattle.temp_var_data.specs.Uses.{registerOf}
-use Rattle.reserved_var.specs.ReservedVar.{numberOfPlace}
 use Rattle.events.specs.declared.Event.{Event}
 use Rattle.debray_allocator.specs.declared.State.{State}
 use Rattle.debray_allocator.specs.State.{freshState}
@@ -136,7 +136,7 @@ zeros-fit cells w =
 pub places-fit-fresh : PlacesFit freshState
 places-fit-fresh =
     record {
-      places = record { full = length-replicate {A = ℕ} (variables * 16) 0; holds = λ w h. zeros-fit (variables * 16) w };
+      places = record { full = length-replicate {A = ℕ} (variables * rowCells) 0; holds = λ w h. zeros-fit (variables * rowCells) w };
       uses = all-replicate (λ code. Fitting (registerOf code)) (variables * uses) 0 (omega arith);
       freed = all-replicate Fitting freedRegisters 0 (omega arith);
     }

@@ -4,12 +4,12 @@ use mathlib.Core.Bool.{Bool, true, false}
 use mathlib.Core.List.{List}
 use native.Mathlib.Omega.{arith}
 use Rattle.sizes.specs.Sizes.{variables, registers}
+use Rattle.registers.specs.Registers.{numberOfPlace}
 use Rattle.variable_records.specs.declared.VarAlloc.{VarAlloc}
 use Rattle.variable_records.specs.declared.VarAlloc.the-variants.{Temp, Perm}
 use Rattle.variable_records.specs.declared.VariableRecord.{VariableRecord}
 use Rattle.variable_records.specs.Records.{placeOfAlloc, placedAlloc, placedAt}
 use Rattle.variable_records.specs.Rows.{recordAt, recordPut, temporary}
-use Rattle.reserved_var.specs.ReservedVar.{numberOfPlace}
 use Rattle.invariants.specs.Every.{Every, every-at, every-put}
 
 -- what is wanted of a variable that is a temporary or is not, and of the number of a place: any up to 63 is good

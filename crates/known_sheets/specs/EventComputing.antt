@@ -5,15 +5,16 @@ use Rattle.notation.specs.Lists.{numbersFrom}
 use Rattle.bit_set.specs.BitSet.{has, inserted, union, removed}
 use Rattle.bit_set.specs.Collected.{collectedBelow, collected}
 use Rattle.split.specs.Split.{before, after, split, inFront, joined}
-use Rattle.words.specs.Words.{same, codeAmong}
+use Rattle.words.specs.Words.{same}
 use Rattle.numbers.specs.Numbers.{isDigit, allDigits, valueFrom, needlessZero, isNumber, numberOf, decimal, written}
 use Rattle.registers.specs.Registers.{registerText}
 use Rattle.instructions.specs.Instructions.{line as textLine, instructionText, atText}
 use Rattle.variable_records.specs.Rows.{recordAt, recordPut, recordOf, allocationOf, permOf, safetyOf, contextOf, temporary, isTemporary}
 use Rattle.variable_records.specs.Safety.{unneededIn, neededIf}
+use Rattle.register_sets.specs.RegisterSets.{setAt, setPut}
 use Rattle.temp_var_data.specs.Lists.{any}
 use Rattle.temp_var_data.specs.Uses.{usesOf, usesRegister, containsUse, takesUse, useSetsWith, useCountsWith, conflictOf, upTo}
-use Rattle.restricting_sets.specs.Restricting.{below, rowsAnew, chunkOf, isTemporary as hasChunk, beforeOrFree, restricts, noUseOf, conflictAt}
+use Rattle.restricting_sets.specs.Restricting.{below, setsAnew, chunkOf, isTemporary as hasChunk, beforeOrFree, restricts, noUseOf, conflictAt}
 use Rattle.shallow_temp_mappings.specs.Mappings.{mappedAt, mappedWith}
 use Rattle.perm_free_list.specs.PermFreeList.{freeSlot, entries, looked}
 use Rattle.branch_stack.specs.BranchStack.{currentBranch}
@@ -36,24 +37,23 @@ use Rattle.debray_allocator.specs.declared.State.{State}
 use Rattle.debray_allocator.specs.declared.Answer.{Answer}
 use Rattle.debray_allocator.specs.DebrayAllocator.{seenAfter, refusedWith, acted, unlessRefused, stepped}
 use Rattle.event_fields.specs.EventFields.{targetOf, levelOf, contextOf as contextField, useIn, useOf, variableEntry, argumentOf}
-use Rattle.event_lines.specs.Codes.{wordCode, saidAmong}
-use Rattle.event_lines.specs.EventLines.{oneNumber, twoNumbers, threeNumbers, bareLine, markOf, markLine, allEntries, counted, leading, usesCount, usesList, tempLine, tempList, closeLine, closeList, listLine, saidBy, entriesBy, fieldsSay, fieldsList, lineSays, lineList}
-use Rattle.answers.specs.Answers.{answerText, endText}
-use Rattle.code_deque.specs.declared.CodeDeque.{CodeDeque}
-use Rattle.debray_allocator.specs.declared.At.{At}
+use Rattle.event_lines.specs.LineForms.{endSays, fieldSays, allEntries, listSays, leading, usesIn, usesSay, usesList}
+use Rattle.event_lines.specs.Words.{lineWords}
+use Rattle.event_lines.specs.EventLines.{wordAmong, fieldsSay, fieldsList, lineSays, lineList}
+use Rattle.answers.specs.Answers.{answerText, textOf, endText}
 use Rattle.event_lines.specs.declared.Line.{Line}
 
 -- a line read
 unfoldable pub lineRead : List ℕ → Line
-unfolding contextField oneNumber twoNumbers threeNumbers bareLine markOf markLine allEntries counted leading usesCount usesList tempLine tempList closeLine closeList listLine saidBy entriesBy fieldsSay fieldsList lineSays lineList codeAmong wordCode saidAmong targetOf levelOf useIn useOf variableEntry argumentOf isDigit allDigits valueFrom needlessZero isNumber numberOf same before after split inFront
+unfolding lineSays lineList fieldsSay fieldsList wordAmong lineWords endSays fieldSays allEntries listSays leading usesIn usesSay usesList contextField targetOf levelOf useIn useOf variableEntry argumentOf isDigit allDigits valueFrom needlessZero isNumber numberOf same before after split inFront
 lineRead bytes = lineSays bytes
 
 -- its event carried out
 unfoldable pub lineStep : State → Event → List ℕ → Answer
-unfolding stepped unlessRefused acted refusedWith seenAfter refusalBefore refusalBySize allFit isUse isContext permRecorded tempRecorded rowsPut usesGiven each takesUse useSetsWith useCountsWith containsUse usesRegister any usesOf chunkAt chunksOf populated below rowsAnew chunkOf hasChunk beforeOrFree restricts noUseOf conflictAt conflictOf collected collectedBelow recordPut recordAt recordOf allocationOf permOf safetyOf contextOf temporary isTemporary mappedAt mappedWith currentBranch topOf rowsTop setsTop recorded rowsRecorded setsRecorded counterAfter inUse isFree first registersFrom firstUnused leastFree otherwise chosen hint movedTo evacuatedBy evacuated has inserted union numbersFrom entries looked freeSlot slotGiven slotTaken newSlot slotFound permPlaced remembered safeIn safeMade instructedAfter argumentSafe argumentValueOf argumentMade othersOut advancedBy markedAfter argumentMarked allocApart afterEvacuation allocShallow notedSlot settled finishedAfter finished reservedAfter reservedMarked markedAt newTemporaryAfter newTemporaryMarked newSlotAfter newSlotMarked temporaryMarked permanentMarked varMarked countedOrFreed freed pushedFree unneededIn neededIf removed upTo subtermValueOf shallowInHead met subtermMade awaitsRegister argumentPlaced argumentsPlaced headReset
+unfolding stepped unlessRefused acted refusedWith seenAfter refusalBefore refusalBySize allFit isUse isContext permRecorded tempRecorded rowsPut setAt setPut usesGiven each takesUse useSetsWith useCountsWith containsUse usesRegister any usesOf chunkAt chunksOf populated below setsAnew chunkOf hasChunk beforeOrFree restricts noUseOf conflictAt conflictOf collected collectedBelow recordPut recordAt recordOf allocationOf permOf safetyOf contextOf temporary isTemporary mappedAt mappedWith currentBranch topOf rowsTop setsTop recorded rowsRecorded setsRecorded counterAfter inUse isFree first registersFrom firstUnused leastFree otherwise chosen hint movedTo evacuatedBy evacuated has inserted union numbersFrom entries looked freeSlot slotGiven slotTaken newSlot slotFound permPlaced remembered safeIn safeMade instructedAfter argumentSafe argumentValueOf argumentMade othersOut advancedBy markedAfter argumentMarked allocApart afterEvacuation allocShallow notedSlot settled finishedAfter finished reservedAfter reservedMarked markedAt newTemporaryAfter newTemporaryMarked newSlotAfter newSlotMarked temporaryMarked permanentMarked varMarked countedOrFreed freed pushedFree unneededIn neededIf removed upTo subtermValueOf shallowInHead met subtermMade awaitsRegister argumentPlaced argumentsPlaced headReset
 lineStep s event list = stepped s event list
 
 -- what it prints
-unfoldable pub linePrinted : CodeDeque → At → List ℕ
+unfoldable pub linePrinted : Answer → List ℕ
 unfolding answerText endText textLine instructionText atText registerText decimal written joined
-linePrinted code at = answerText code at
+linePrinted a = textOf a

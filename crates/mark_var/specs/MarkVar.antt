@@ -8,6 +8,7 @@ use Rattle.refusals.specs.Refusals.{accepted}
 use Rattle.bit_set.specs.BitSet.{inserted}
 use Rattle.registers.specs.declared.RegType.{RegType}
 use Rattle.registers.specs.declared.RegType.the-variants.{Temp as TempRegister, Perm as PermSlot}
+use Rattle.registers.specs.Registers.{numberOfPlace}
 use Rattle.code_deque.specs.declared.CodeDeque.{CodeDeque}
 use Rattle.code_deque.specs.declared.CodeDeque.the-variants.{Empty}
 use Rattle.forms.specs.declared.Branch.{Branch}
@@ -30,7 +31,7 @@ use Rattle.evacuation.specs.declared.Reached.{Reached}
 use Rattle.evacuation.specs.Evacuation.{Sets, Evacuation, evacuation}
 use Rattle.allocation.specs.Allocation.{Placement, slotGiven, permPlaced}
 use Rattle.freeing.specs.Freeing.{ReleaseOf, releaseOf, countedOrFreed}
-use Rattle.reserved_var.specs.ReservedVar.{Step, stopped, subtermMade, argumentMarked, numberOfPlace}
+use Rattle.reserved_var.specs.ReservedVar.{Step, stopped, subtermMade, argumentMarked}
 use Rattle.marks.specs.declared.Marked.{Marked}
 use Rattle.marks.specs.Marks.{RegisterPlacement, registerPlaced}
 use Rattle.mark_var.specs.declared.Mark.{Mark}

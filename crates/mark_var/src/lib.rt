@@ -1,10 +1,8 @@
 // A variable is marked: it gets a place if it has none, its instruction is made, and the mark is settled.
 ghost use mathlib.Core.Path.{_≡_};
-ghost use Rattle.bit_set.specs.BitSet.{inserted};
 ghost use Rattle.evacuation.specs.Evacuation.{sets, evacuation};
 ghost use Rattle.branches.specs.Branches.{recordRefusal, recorded, rowsRecorded, setsRecorded};
 ghost use Rattle.freeing.specs.Freeing.{releaseOf};
-ghost use Rattle.reserved_var.specs.ReservedVar.{numberOfPlace};
 ghost use Rattle.mark_var.specs.MarkVar.{
   notedPlace,
   noted,
@@ -21,18 +19,17 @@ ghost use Rattle.mark_var.specs.MarkVar.{
   varMarked,
 };
 use allocator_state::Counters;
-use bit_set::BitSet;
 use branch_stack::BranchRows;
 use branch_stack::BranchSets;
 use branches::Recorded;
 use code_deque::CodeDeque;
 use evacuation::Reached;
-use evacuation::RegisterSets;
 use forms::GenContext;
 use forms::Level;
 use freeing::Released;
 use marks::Marked;
 use perm_free_list::PermFreeList;
+use register_sets::RegisterSets;
 use registers::RegType;
 use shallow_temp_mappings::Mappings;
 use targets::Target;
@@ -94,26 +91,6 @@ fn note_place(
     }
 }
 
-// A place's number.
-fn number_of(place: RegType) -> u32
-    ensures { λ r. ⌜ r ≡ numberOfPlace place ⌝ }
-{
-    match place {
-        RegType::Temp(r) => r,
-        RegType::Perm(slot) => slot,
-    }
-}
-
-// The registers in use with a place's number among them, a slot's too.
-fn used_by(in_use: BitSet, place: RegType) -> BitSet
-    ensures { λ r. ⌜ r ≡ inserted «in_use» (numberOfPlace place) ⌝ }
-{
-    match place {
-        RegType::Temp(r) => bit_set::insert(in_use, r),
-        RegType::Perm(slot) => bit_set::insert(in_use, slot),
-    }
-}
-
 // Keeps a variable's place, counts or frees the variable, and puts the place's number in use.
 fn settle(
     counters: Counters,
@@ -126,12 +103,12 @@ fn settle(
     ensures { λ r. ⌜ releaseOf (now (records .exit)) (now (list .exit)) r ≡ settled counters (now (records .entry)) (now (list .entry)) context v place ⌝ }
 {
     let chunk = forms::chunk_num(context);
-    let number = number_of(place);
+    let number = registers::number_of(place);
     let variable = variable_records::load(records, v);
     variable_records::store(records, v, variable.set_register(number));
     let released = freeing::count_or_free(counters, records, list, chunk, v);
     let mut used = released.counters;
-    used.in_use = used_by(used.in_use, place);
+    used.in_use = allocator_state::used_by(used.in_use, place);
     Released {
         counters: used,
         refusal: released.refusal,

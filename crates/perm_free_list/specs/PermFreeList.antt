@@ -12,9 +12,13 @@ use Rattle.variable_records.specs.Rows.{recordAt}
 use Rattle.perm_free_list.specs.declared.FreedSlot.{FreedSlot}
 use Rattle.perm_free_list.specs.declared.Looked.{Looked}
 
+-- a chunk and a variable
+abbrev pub entryCells : ℕ
+entryCells = 2
+
 -- the table goes round: entry i behind a front
 abbrev pub entryStart : ℕ → ℕ → ℕ
-entryStart first i = (first % freedSlots + i % freedSlots) % freedSlots * 2
+entryStart first i = (first % freedSlots + i % freedSlots) % freedSlots * entryCells
 
 abbrev pub entryAt : List ℕ → ℕ → ℕ → FreedSlot
 entryAt list first i =

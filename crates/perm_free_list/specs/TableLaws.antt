@@ -9,29 +9,29 @@ use lib.ListN.{length, replicate}
 use Rattle.notation.specs.ListLaws.{cells-put-same, cells-put-other, length-put}
 use Rattle.sizes.specs.Sizes.{freedSlots}
 use Rattle.perm_free_list.specs.declared.FreedSlot.{FreedSlot}
-use Rattle.perm_free_list.specs.PermFreeList.{entryStart, entryAt, entryPut, entries}
+use Rattle.perm_free_list.specs.PermFreeList.{entryCells, entryStart, entryAt, entryPut, entries}
 
--- the two numbers of an entry: a table of that entry alone
+-- the numbers of an entry: a table of that entry alone
 abbrev numbersOf : FreedSlot → List ℕ
-numbersOf = entryPut (replicate 2 0) 0 0
+numbersOf = entryPut (replicate entryCells 0) 0 0
 
 abbrev entryFrom : List ℕ → FreedSlot
 entryFrom numbers = entryAt numbers 0 0
 
 module _ (list : List ℕ) (first i : ℕ) (entry : FreedSlot) where
-  pub entry-put-same : length list ≡ freedSlots * 2 → entryAt (entryPut list first i entry) first i ≡ entry
+  pub entry-put-same : length list ≡ freedSlots * entryCells → entryAt (entryPut list first i entry) first i ≡ entry
   entry-put-same size = ap entryFrom (cells-put-same list (entryStart first i) 0 (numbersOf entry) (omega arith))
 
   pub entry-put-other :
       (j : ℕ) → i < freedSlots → j < freedSlots → i ≢ j → entryAt (entryPut list first i entry) first j ≡ entryAt list first j
   entry-put-other j hi hj differ =
       let apart : (first % freedSlots + i % freedSlots) % freedSlots ≢ (first % freedSlots + j % freedSlots) % freedSlots = omega arith in
-      ap entryFrom (cells-put-other 2 _ _ apart list (numbersOf entry) (omega arith) 0 2 (omega arith))
+      ap entryFrom (cells-put-other entryCells _ _ apart list (numbersOf entry) (omega arith) 0 entryCells (omega arith))
 
   pub entry-put-length : length (entryPut list first i entry) ≡ length list
   entry-put-length = length-put list (entryStart first i) 0 (numbersOf entry)
 
-module _ (list : List ℕ) (first count : ℕ) (entry : FreedSlot) (size : length list ≡ freedSlots * 2) (h : count < freedSlots) where
+module _ (list : List ℕ) (first count : ℕ) (entry : FreedSlot) (size : length list ≡ freedSlots * entryCells) (h : count < freedSlots) where
   -- the same from entry i on
   pushed :
       (i n : ℕ) → i + n ≡ count

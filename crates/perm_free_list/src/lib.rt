@@ -6,7 +6,10 @@ use variable_records::PermVarAllocation;
 use variable_records::Records;
 use variable_records::VarAlloc;
 
-pub type PermFreeList = [u32; FREED_SLOTS * 2];
+// Cells of an entry.
+pub const ENTRY_CELLS: usize = 2;
+
+pub type PermFreeList = [u32; FREED_SLOTS * ENTRY_CELLS];
 
 // A chunk, and the variable whose slot was freed in it.
 pub struct FreedSlot {
@@ -19,7 +22,7 @@ pub fn entry_at(list: &PermFreeList, first: u32, i: u32) -> FreedSlot
     ensures { λ r. ⌜ r ≡ entryAt (now (list .entry)) first i ⌝ }
 {
     let entries = FREED_SLOTS as u32;
-    let at = ((first % entries + i % entries) % entries) as usize * 2;
+    let at = ((first % entries + i % entries) % entries) as usize * ENTRY_CELLS;
     FreedSlot {
         chunk: list[at],
         variable: list[at + 1],
@@ -31,7 +34,7 @@ pub fn put_entry(list: &mut PermFreeList, first: u32, i: u32, entry: FreedSlot)
     ensures { λ _. ⌜ now (list .exit) ≡ entryPut (now (list .entry)) first i entry ⌝ }
 {
     let entries = FREED_SLOTS as u32;
-    let at = ((first % entries + i % entries) % entries) as usize * 2;
+    let at = ((first % entries + i % entries) % entries) as usize * ENTRY_CELLS;
     list[at] = entry.chunk;
     list[at + 1] = entry.variable;
 }

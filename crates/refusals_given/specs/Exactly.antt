@@ -24,13 +24,14 @@ use Rattle.debray_allocator.specs.declared.State.{State}
 use Rattle.debray_allocator.specs.declared.Answer.{Answer}
 use Rattle.debray_allocator.specs.State.{freshState}
 use Rattle.debray_allocator.specs.DebrayAllocator.{refusedWith, acted, unlessRefused, stepped}
+use Rattle.answers.specs.Answers.{textOf}
 use Rattle.answered.specs.declared.Answered.{Answered}
 use Rattle.answered.specs.declared.Answered.the-variants.{Refused}
 use Rattle.answered.specs.NumberLaws.{lineIn, refusalIn}
 use Rattle.event_sheets.specs.EventSheets.{Ran, saidAnswer, lineAnswer, lastRan, lineRan, ran, sheetRan, answeredBy, answered}
 use Rattle.valid_states.specs.ValidStates.{isValid}
 use Rattle.event_calls.specs.declared.Called.{Called}
-use Rattle.event_calls.specs.EventCalls.{partsAnswer, bytesAnswer, textOf, calledBy, called}
+use Rattle.event_calls.specs.EventCalls.{partsAnswer, bytesAnswer, calledBy, called}
 use Rattle.event_calls.specs.CallLaws.{called-valid, by-refused}
 use Rattle.valid_stays.specs.Fits.{Full}
 use Rattle.valid_stays.specs.FromTests.{kindsOf, valid-small, valid-fits}

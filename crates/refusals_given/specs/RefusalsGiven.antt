@@ -20,20 +20,19 @@ use Rattle.event_lines.specs.declared.Line.{Line}
 use Rattle.event_lines.specs.declared.Line.the-variants.{Malformed, Says}
 use Rattle.event_lines.specs.EventLines.{lineSays, lineList}
 use Rattle.debray_allocator.specs.declared.State.{State}
-use Rattle.debray_allocator.specs.State.{freshState}
 use Rattle.debray_allocator.specs.DebrayAllocator.{refusedWith, stepped}
+use Rattle.answers.specs.Answers.{textOf}
 use Rattle.answered.specs.NumberLaws.{small-told, TellsApart, roomless}
 use Rattle.event_sheets.specs.EventSheets.{Ran, saidAnswer, lineAnswer, ended, lastRan, lineRan, ran, sheetRan}
 use Rattle.event_sheets.specs.EventSheets.{answeredBy as eventsAnsweredBy, answered as answeredEvents}
 use Rattle.valid_states.specs.ValidStates.{isValid}
-use Rattle.valid_states.specs.ValidStatesLaws.{fresh-valid}
 use Rattle.event_calls.specs.declared.Called.{Called}
-use Rattle.event_calls.specs.EventCalls.{partsAnswer, bytesAnswer, textOf, calledBy, called, lastAnswered}
-use Rattle.event_calls.specs.FoldLaws.{line-valid}
+use Rattle.event_calls.specs.EventCalls.{partsAnswer, bytesAnswer, calledBy, called, lastAnswered}
+use Rattle.event_calls.specs.FoldLaws.{line-reachable}
 use Rattle.invariants.specs.Lists.{All}
 use Rattle.valid_stays.specs.Fits.{Full}
 use Rattle.valid_stays.specs.FromTests.{kindsOf, valid-small, valid-fits}
-use Rattle.valid_stays.specs.ValidStays.{full-fresh}
+use Rattle.valid_stays.specs.Reachable.{Reachable, fresh, reachable-full, reachable-valid}
 use Rattle.refusals_given.specs.Given.{refusalsOf}
 use Rattle.refusals_given.specs.OfSteps.{Row, stepped-given}
 
@@ -124,18 +123,17 @@ module _ (s : State) (tables : Full s) (valid : isValid s ≡ true) where
 abbrev RanSmall : Ran → Type 0
 RanSmall r = r .refusal ≤ refusedFull
 
-ran-small : (parts : List (List ℕ)) (s : State) → Full s → isValid s ≡ true → (number : ℕ) → RanSmall (ran s number parts)
+ran-small : (parts : List (List ℕ)) {s : State} → Reachable s → (number : ℕ) → RanSmall (ran s number parts)
 unfolding ran lastRan lineRan
-ran-small [] s tables valid number = omega arith
-ran-small (left ∷ []) s tables valid number = either RanSmall (ltb 0 (length left)) (omega arith) (omega arith)
-ran-small (line ∷ (next ∷ parts)) s tables valid number =
-    let after = line-valid s tables valid line in
-    either RanSmall (ltb 0 (lineAnswer s line .refusal)) (line-small s tables valid line)
-    (ran-small (next ∷ parts) (lineAnswer s line .state) (after .0) (after .1) (suc number))
+ran-small [] r number = omega arith
+ran-small (left ∷ []) r number = either RanSmall (ltb 0 (length left)) (omega arith) (omega arith)
+ran-small (line ∷ (next ∷ parts)) {s} r number =
+    either RanSmall (ltb 0 (lineAnswer s line .refusal)) (line-small s (reachable-full r) (reachable-valid r) line)
+    (ran-small (next ∷ parts) (line-reachable r line) (suc number))
 
 pub sheet-small : (sheet : List ℕ) → RanSmall (sheetRan sheet)
 unfolding sheetRan
-sheet-small sheet = ran-small (split lineFeed sheet) freshState full-fresh fresh-valid 1
+sheet-small sheet = ran-small (split lineFeed sheet) fresh 1
 
 ran-tells : (r : Ran) → RanSmall r → (lent : ℕ) → TellsApart (eventsAnsweredBy r lent)
 unfolding eventsAnsweredBy

@@ -1,12 +1,23 @@
 // Places of a variable: a register `x`, for a temporary, or a slot of the stack `y`, for a permanent variable.
+ghost use mathlib.Core.Path.{_≡_};
 ghost use mathlib.Core.List.{_∷_};
 ghost use Rattle.numbers.specs.Numbers.{decimal};
 ghost use Rattle.printing.specs.Printing.{Put};
-ghost use Rattle.registers.specs.Registers.{registerText};
+ghost use Rattle.registers.specs.Registers.{numberOfPlace, registerText};
 
 pub enum RegType {
     Temp(u32),
     Perm(u32),
+}
+
+// A place's number.
+pub fn number_of(place: RegType) -> u32
+    ensures { λ r. ⌜ r ≡ numberOfPlace place ⌝ }
+{
+    match place {
+        RegType::Temp(r) => r,
+        RegType::Perm(slot) => slot,
+    }
 }
 
 // The place as it is printed, `x3` or `y1`.

@@ -13,7 +13,7 @@ use Rattle.forms.specs.declared.GenContext.the-variants.{Head, Mid, Last}
 use Rattle.forms.specs.declared.Level.{Level}
 use Rattle.forms.specs.declared.Level.the-variants.{Deep}
 use Rattle.registers.specs.declared.RegType.{RegType}
-use Rattle.registers.specs.declared.RegType.the-variants.{Temp as TempRegister, Perm as PermSlot}
+use Rattle.registers.specs.Registers.{numberOfPlace}
 use Rattle.instructions.specs.declared.Instruction.{Instruction}
 use Rattle.targets.specs.declared.Target.{Target}
 use Rattle.targets.specs.Targets.{argumentToVariable, subtermToVariable}
@@ -119,10 +119,6 @@ shallowInHeadOf (Perm slot allocation) useSets useCounts v r = false
 
 unfoldable pub shallowInHead : List ℕ → List ℕ → List ℕ → ℕ → ℕ → Bool
 shallowInHead records useSets useCounts v r = shallowInHeadOf (recordAt records v .allocation) useSets useCounts v r
-
-abbrev pub numberOfPlace : RegType → ℕ
-numberOfPlace (TempRegister r) = r
-numberOfPlace (PermSlot r) = r
 
 abbrev pub metIn : List ℕ → List ℕ → List ℕ → GenContext → ℕ → RegType → Bool
 metIn records useSets useCounts (Mid chunk) v place = false

@@ -20,13 +20,13 @@ ghost use Rattle.reserved_var.specs.ReservedVar.{
 use allocator_state::Counters;
 use code_deque::CodeDeque;
 use evacuation::Reached;
-use evacuation::RegisterSets;
 use forms::Branch;
 use forms::GenContext;
 use forms::Level;
 use instructions::Instruction;
 use record_marks::MarkedSafe;
 use record_marks::Valued;
+use register_sets::RegisterSets;
 use registers::RegType;
 use shallow_temp_mappings::Mappings;
 use sizes::VARIABLES;

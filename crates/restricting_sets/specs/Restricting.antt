@@ -2,13 +2,14 @@
 use Prim.Native.Nat.{ℕ, zero, suc, _+_}
 use mathlib.Core.Path.{_≡_}
 use mathlib.Core.Bool.{Bool, not, _&&_, _||_}
-use mathlib.Core.List.{List, [], _∷_, _++_, map}
+use mathlib.Core.List.{List, [], _∷_, _++_, foldl}
 use lib.Dec.{eqb, ltb}
 use lib.ListN.{getD}
 use Rattle.notation.specs.Choice.{if_then_else_}
 use Rattle.sizes.specs.Sizes.{variables, chunks as lastChunk, isChunk}
 use Rattle.bit_set.specs.BitSet.{has}
 use Rattle.bit_set.specs.Collected.{collected}
+use Rattle.register_sets.specs.RegisterSets.{setAt, setPut}
 use Rattle.temp_var_data.specs.Lists.{any}
 use Rattle.temp_var_data.specs.Uses.{lastContext, useCode, usesOf, usesRegister, containsUse, conflictOf}
 
@@ -17,9 +18,9 @@ unfoldable pub below : ℕ → List ℕ
 below zero = []
 below (suc n) = below n ++ (n ∷ [])
 
--- a table made anew, each row from what stood there and its number
-unfoldable pub rowsAnew : (ℕ → ℕ → ℕ) → List ℕ → List ℕ
-rowsAnew f table = map (λ v. f (getD table v 0) v) (below variables)
+-- a table of sets made anew, each from what stood there and its variable's number
+unfoldable pub setsAnew : (ℕ → ℕ → ℕ) → List ℕ → List ℕ
+setsAnew f sets = foldl (λ table v. setPut table v (f (setAt sets v) v)) sets (below variables)
 
 -- in the place of a chunk: the variable is no temporary. Every larger number says so too
 abbrev pub noChunk : ℕ
@@ -54,5 +55,5 @@ module _ (useSets useCounts chunks : List ℕ) where
 
   -- the sets of all variables
   pub record Populated (noUse conflict noUseAfter conflictAfter : List ℕ) : Type 0 where
-    pub noUses : noUseAfter ≡ rowsAnew noUseOf noUse
-    pub conflicts : conflictAfter ≡ rowsAnew conflictAt conflict
+    pub noUses : noUseAfter ≡ setsAnew noUseOf noUse
+    pub conflicts : conflictAfter ≡ setsAnew conflictAt conflict

@@ -5,20 +5,21 @@ use mathlib.Core.Bool.{true, false, not, _&&_, _||_, false≢true}
 use mathlib.Core.List.{List, [], _∷_, _++_}
 use mathlib.Core.Logic.{_↔_, _⊎_, ⊎-map}
 use lib.Dec.{eqb, ltb}
-use lib.ListN.{getD, take, replicate}
+use lib.ListN.{length, take, replicate}
 use borrow.Author.Tests.{eqb-false, ne-eqb, ltb-true, lt-ltb, not-true}
 use Rattle.notation.specs.ChoiceLaws.{both-true}
 use Rattle.sizes.specs.Sizes.{variables, registers}
 use Rattle.bit_set.specs.BitSet.{has, emptySet, inserted}
 use Rattle.bit_set.specs.Collected.{collectedBelow, collected}
 use Rattle.bit_set.specs.CollectedLaws.{has-collected}
+use Rattle.register_sets.specs.RegisterSets.{setAt, setPut}
 use Rattle.temp_var_data.specs.TestLaws.{refuted, either-exactly}
 use Rattle.temp_var_data.specs.Lists.{any, _∈_}
 use Rattle.temp_var_data.specs.Uses.{lastContext, useCode, registerOf, usesOf, usesRegister, containsUse, conflictOf}
 use Rattle.temp_var_data.specs.UsesLaws.{uses-register-exactly, contains-use-exactly}
-use Rattle.restricting_sets.specs.Restricting.{below, rowsAnew, chunkOf, isTemporary, beforeOrFree, restricts, noUseOf, conflictAt}
+use Rattle.restricting_sets.specs.Restricting.{below, setsAnew, chunkOf, isTemporary, beforeOrFree, restricts, noUseOf, conflictAt}
 use Rattle.restricting_sets.specs.BelowLaws.{any-below-exactly}
-use Rattle.restricting_sets.specs.RowsLaws.{anew-at}
+use Rattle.restricting_sets.specs.AnewLaws.{anew-at}
 use Rattle.restricting_sets.specs.StepLaws.{no-use-kept, conflict-kept, conflict-made}
 
 module _ (useSets useCounts chunks : List ℕ) (v r : ℕ) where
@@ -54,20 +55,22 @@ module _ (useSets useCounts chunks : List ℕ) (v r : ℕ) where
         λ s. simp (s .0, ne-eqb u v (s .1), used .1 (s .2), either .1 (s .3)),
       )
 
-  module _ (noUse : List ℕ) (inside : v < variables) (temporary : isTemporary chunks v ≡ true) (h : r ≤ registers) where
+  module _
+      (noUse : List ℕ) (full : length noUse ≡ variables) (inside : v < variables) (temporary : isTemporary chunks v ≡ true)
+      (h : r ≤ registers) where
     no-use-test :
-        has (getD (rowsAnew (noUseOf useSets useCounts chunks) noUse) v 0) r
-        ≡ (has (getD noUse v 0) r || any (λ u. restricts useSets useCounts chunks u v r) (below variables))
+        has (setAt (setsAnew (noUseOf useSets useCounts chunks) noUse) v) r
+        ≡ (has (setAt noUse v) r || any (λ u. restricts useSets useCounts chunks u v r) (below variables))
     unfolding noUseOf
-    no-use-test = rw (anew-at (noUseOf useSets useCounts chunks) noUse v inside) (simp temporary (has-collected _ r h))
+    no-use-test = rw (anew-at (noUseOf useSets useCounts chunks) noUse full v inside) (simp temporary (has-collected _ r h))
 
     -- rule 7.2: v's no-use set has r exactly if it had r before, or there is such a u
     pub no-use-exactly :
-        (has (getD (rowsAnew (noUseOf useSets useCounts chunks) noUse) v 0) r ≡ true)
-        ↔ ((has (getD noUse v 0) r ≡ true) ⊎ ((u : ℕ) × (u < variables) × Restricts u))
+        (has (setAt (setsAnew (noUseOf useSets useCounts chunks) noUse) v) r ≡ true)
+        ↔ ((has (setAt noUse v) r ≡ true) ⊎ ((u : ℕ) × (u < variables) × Restricts u))
     no-use-exactly =
         let some = any-below-exactly (λ u. restricts useSets useCounts chunks u v r) variables in
-        let either = either-exactly (has (getD noUse v 0) r) (any (λ u. restricts useSets useCounts chunks u v r) (below variables)) in (
+        let either = either-exactly (has (setAt noUse v) r) (any (λ u. restricts useSets useCounts chunks u v r) (below variables)) in (
           λ e. ⊎-map (λ was. was) (λ a. (let s = some .0 a in (s .0, s .1, restricts-exactly (s .0) .0 (s .2)))) (either .0 (sym no-use-test ∙ e)),
           λ e. no-use-test ∙ either .1 (⊎-map (λ was. was) (λ s. some .1 (s .0, s .1, restricts-exactly (s .0) .1 (s .2))) e),
         )
@@ -77,20 +80,20 @@ module _ (useSets useCounts chunks : List ℕ) (v r : ℕ) where
 module _ (useSets useCounts chunks : List ℕ) (v : ℕ) (inside : v < variables) where
   -- rule 7.3: a temporary's conflict set is made anew
   pub conflict-anew :
-      (conflict : List ℕ) → isTemporary chunks v ≡ true
-      → getD (rowsAnew (conflictAt useSets useCounts chunks) conflict) v 0 ≡ conflictOf (usesOf useSets useCounts v)
-  conflict-anew conflict e = anew-at _ conflict v inside ∙ conflict-made useSets useCounts chunks v (getD conflict v 0) e
+      (conflict : List ℕ) → length conflict ≡ variables → isTemporary chunks v ≡ true
+      → setAt (setsAnew (conflictAt useSets useCounts chunks) conflict) v ≡ conflictOf (usesOf useSets useCounts v)
+  conflict-anew conflict full e = anew-at _ conflict full v inside ∙ conflict-made useSets useCounts chunks v (setAt conflict v) e
 
   -- the sets of a permanent variable stay
   pub no-use-stays :
-      (noUse : List ℕ) → isTemporary chunks v ≡ false
-      → getD (rowsAnew (noUseOf useSets useCounts chunks) noUse) v 0 ≡ getD noUse v 0
-  no-use-stays noUse e = anew-at _ noUse v inside ∙ no-use-kept useSets useCounts chunks v (getD noUse v 0) e
+      (noUse : List ℕ) → length noUse ≡ variables → isTemporary chunks v ≡ false
+      → setAt (setsAnew (noUseOf useSets useCounts chunks) noUse) v ≡ setAt noUse v
+  no-use-stays noUse full e = anew-at _ noUse full v inside ∙ no-use-kept useSets useCounts chunks v (setAt noUse v) e
 
   pub conflict-stays :
-      (conflict : List ℕ) → isTemporary chunks v ≡ false
-      → getD (rowsAnew (conflictAt useSets useCounts chunks) conflict) v 0 ≡ getD conflict v 0
-  conflict-stays conflict e = anew-at _ conflict v inside ∙ conflict-kept useSets useCounts chunks v (getD conflict v 0) e
+      (conflict : List ℕ) → length conflict ≡ variables → isTemporary chunks v ≡ false
+      → setAt (setsAnew (conflictAt useSets useCounts chunks) conflict) v ≡ setAt conflict v
+  conflict-stays conflict full e = anew-at _ conflict full v inside ∙ conflict-kept useSets useCounts chunks v (setAt conflict v) e
 
 -- ---- Rule 24.2: two temporaries of chunk 1, each with the one use l1:2, have the no-use sets {} and {2}
 
@@ -98,7 +101,7 @@ abbrev row : List ℕ
 row = useCode (lastContext 1) 2 ∷ replicate 15 0
 
 pub no-use-of-sheet-2 :
-    take 2 (rowsAnew (noUseOf (row ++ row) (1 ∷ 1 ∷ []) (1 ∷ 1 ∷ [])) (emptySet ∷ emptySet ∷ []))
+    take 2 (setsAnew (noUseOf (row ++ row) (1 ∷ 1 ∷ []) (1 ∷ 1 ∷ [])) (emptySet ∷ emptySet ∷ []))
     ≡ emptySet ∷ inserted emptySet 2 ∷ []
-unfolding rowsAnew below noUseOf restricts isTemporary chunkOf beforeOrFree usesOf usesRegister containsUse any collected collectedBelow inserted has
+unfolding setsAnew setAt setPut below noUseOf restricts isTemporary chunkOf beforeOrFree usesOf usesRegister containsUse any collected collectedBelow inserted has
 no-use-of-sheet-2 = refl

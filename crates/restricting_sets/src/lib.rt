@@ -4,6 +4,7 @@ ghost use Rattle.temp_var_data.specs.Uses.{lastContext, usesOf};
 ghost use Rattle.restricting_sets.specs.Restricting.{chunkOf, isTemporary, noUseOf, conflictAt, Populated};
 ghost use Rattle.restricting_sets.specs.StepLaws.{withUse, lastUses, less, withLast};
 use bit_set::BitSet;
+use register_sets::RegisterSets;
 use sizes::LAST_CHUNK;
 use sizes::VARIABLES;
 use temp_var_data::UseCounts;
@@ -14,9 +15,6 @@ pub const NO_CHUNK: u32 = LAST_CHUNK + 1;
 
 // Of each variable its chunk, or a number that is none.
 pub type Chunks = [u32; VARIABLES];
-
-// Of each variable a set.
-pub type Sets = [BitSet; VARIABLES];
 
 // The chunk of `v`, or a number that is none.
 fn chunk_of(chunks: &Chunks, v: u32) -> u32
@@ -127,21 +125,22 @@ fn conflict_of(
 
 // The no-use and the conflict sets of all temporaries; those of other variables stay.
 pub fn populate_restricting_sets(
-    no_use: &mut Sets,
-    conflict: &mut Sets,
+    no_use: &mut RegisterSets,
+    conflict: &mut RegisterSets,
     use_sets: &UseSets,
     use_counts: &UseCounts,
     chunks: &Chunks,
 )
     ensures { λ r. ⌜ Populated (now («use_sets» .entry)) (now («use_counts» .entry)) (now (chunks .entry)) (now («no_use» .entry)) (now (conflict .entry)) (now («no_use» .exit)) (now (conflict .exit)) ⌝ }
 {
-    let no_use_sets = &mut no_use[..];
-    let conflict_sets = &mut conflict[..];
     let mut v: u32 = 0;
     while v < VARIABLES as u32 {
-        let row = v as usize;
-        no_use_sets[row] = no_use_of(no_use_sets[row], use_sets, use_counts, chunks, v);
-        conflict_sets[row] = conflict_of(conflict_sets[row], use_sets, use_counts, chunks, v);
+        let no_use_set = register_sets::load(no_use, v);
+        let restricted = no_use_of(no_use_set, use_sets, use_counts, chunks, v);
+        register_sets::store(no_use, v, restricted);
+        let conflict_set = register_sets::load(conflict, v);
+        let conflicting = conflict_of(conflict_set, use_sets, use_counts, chunks, v);
+        register_sets::store(conflict, v, conflicting);
         v += 1;
     }
 }

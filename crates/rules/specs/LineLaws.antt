@@ -11,16 +11,16 @@ use Rattle.forms.specs.declared.GenContext.{GenContext}
 use Rattle.forms.specs.declared.Level.{Level}
 use Rattle.forms.specs.Forms.{chunkNum}
 use Rattle.registers.specs.declared.RegType.{RegType}
+use Rattle.registers.specs.Registers.{numberOfPlace}
 use Rattle.targets.specs.declared.Target.{Target}
 use Rattle.variable_records.specs.declared.PermVarAllocation.the-variants.{Pending}
 use Rattle.variable_records.specs.declared.VarAlloc.the-variants.{Perm}
 use Rattle.variable_records.specs.Rows.{rowCells, recordAt, isTemporary}
 use Rattle.perm_free_list.specs.declared.FreedSlot.{FreedSlot}
-use Rattle.perm_free_list.specs.PermFreeList.{entries}
+use Rattle.perm_free_list.specs.PermFreeList.{entryCells, entries}
 use Rattle.allocator_state.specs.declared.Counters.{Counters}
 use Rattle.allocator_state.specs.Counters.{withEventsSeen}
 use Rattle.freeing.specs.Freeing.{ReleaseOf}
-use Rattle.reserved_var.specs.ReservedVar.{numberOfPlace}
 use Rattle.mark_var.specs.MarkVar.{VarMark, settled, varMarked}
 use Rattle.events.specs.declared.Event.{Event}
 use Rattle.events.specs.declared.Event.the-variants.{Var}
@@ -173,7 +173,7 @@ module _
 
     pub line-frees :
         isTemporary (s .records) v ≡ false
-        → length (s .«freed_slots») ≡ freedSlots * 2
+        → length (s .«freed_slots») ≡ freedSlots * entryCells
         → (recordAt (after .state .records) v .«running_count» ≡ recordAt (s .records) v .«running_count»)
         × ((slot : ℕ) × (recordAt (after .state .records) v .allocation ≡ Perm slot Pending))
         × ((older : List FreedSlot)

@@ -29,17 +29,18 @@ use Rattle.variable_records.specs.declared.VarAlloc.the-variants.{Temp, Perm}
 use Rattle.variable_records.specs.declared.VariableRecord.{VariableRecord}
 use Rattle.variable_records.specs.Records.{allocated}
 use Rattle.variable_records.specs.Rows.{rowCells, recordAt, recordPut, isTemporary}
+use Rattle.register_sets.specs.RegisterSets.{setAt}
 use Rattle.temp_var_data.specs.TestLaws.{refuted}
 use Rattle.temp_var_data.specs.Lists.{_∈_}
 use Rattle.temp_var_data.specs.Uses.{lastContext, useCode, registerOf, usesOf}
 use Rattle.perm_free_list.specs.declared.FreedSlot.{FreedSlot}
-use Rattle.perm_free_list.specs.PermFreeList.{entries, pendingSlot, freeSlot, none, looked}
+use Rattle.perm_free_list.specs.PermFreeList.{entryCells, entries, pendingSlot, freeSlot, none, looked}
 use Rattle.perm_free_list.specs.PermFreeListLaws.{looked-late, looked-taken, looked-dropped}
 use Rattle.allocator_state.specs.declared.Counters.{Counters}
 use Rattle.choice.specs.declared.Chosen.the-variants.{Register, NoRegister}
 use Rattle.choice.specs.Choice.{inUse, leastOutside}
 use Rattle.choice.specs.ChoiceRules.{use-set-wins, otherwise-least}
-use Rattle.evacuation.specs.Evacuation.{setAt, allocWithCr, allocWithCa, goingOn}
+use Rattle.evacuation.specs.Evacuation.{allocWithCr, allocWithCa, goingOn}
 use Rattle.allocation.specs.Allocation.{popped, nonVar, Placement, withoutFront, placedIn, permPlaced}
 use Rattle.record_marks.specs.declared.MarkedSafe.the-variants.{Safe}
 use Rattle.record_marks.specs.RecordMarks.{inPlace, markedSafe}
@@ -70,8 +71,9 @@ module _
   -- ---- Rule 7.2: what `sets` adds to a no-use set
 
   pub no-use-set-exactly :
-      (has (getD (populated c records useSets useCounts before .noUse) v 0) r ≡ true)
-      ↔ ((has (getD (before .noUse) v 0) r ≡ true)
+      length (before .noUse) ≡ variables
+      → (has (setAt (populated c records useSets useCounts before .noUse) v) r ≡ true)
+      ↔ ((has (setAt (before .noUse) v) r ≡ true)
       ⊎ ((u : ℕ)
       × (Temporary c records u × (u ≢ v)
       × (useCode (lastContext (chunkIn c records v)) r ∈ usesOf useSets useCounts u)
@@ -81,7 +83,8 @@ module _
   -- ---- Rule 7.3: what `sets` makes of a conflict set
 
   pub conflict-set-exactly :
-      (has (getD (populated c records useSets useCounts before .conflict) v 0) r ≡ true)
+      length (before .conflict) ≡ variables
+      → (has (setAt (populated c records useSets useCounts before .conflict) v) r ≡ true)
       ↔ ((1 ≤ r) × (r < length (usesOf useSets useCounts v)) × DoesNotUse useSets useCounts v r)
   conflict-set-exactly = conflict-of-records c records held sized useSets useCounts before v r temporary inside
 
@@ -201,7 +204,7 @@ module _
       let after = stepped s (Var target level context v) list .state in
       recordAt (s .records) v .«num_occurrences» ≤ recordAt (s .records) v .«running_count»
       → isTemporary (s .records) v ≡ false
-      → length (s .«freed_slots») ≡ freedSlots * 2
+      → length (s .«freed_slots») ≡ freedSlots * entryCells
       → (recordAt (after .records) v .«running_count» ≡ recordAt (s .records) v .«running_count»)
       × ((slot : ℕ) × (recordAt (after .records) v .allocation ≡ Perm slot Pending))
       × ((older : List FreedSlot)

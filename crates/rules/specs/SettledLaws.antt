@@ -24,18 +24,18 @@ use Rattle.variable_records.specs.Records.{allocated, placedAlloc, placedAt}
 use Rattle.variable_records.specs.Rows.{rowCells, recordAt, recordPut, temporary}
 use Rattle.variable_records.specs.TableLaws.{record-put-same, record-put-length}
 use Rattle.perm_free_list.specs.declared.FreedSlot.{FreedSlot}
-use Rattle.perm_free_list.specs.PermFreeList.{entryPut, entries}
+use Rattle.perm_free_list.specs.PermFreeList.{entryCells, entryPut, entries}
 use Rattle.perm_free_list.specs.TableLaws.{entries-push}
 use Rattle.refusals.specs.Refusals.{refusedFull}
+use Rattle.registers.specs.Registers.{numberOfPlace}
 use Rattle.allocator_state.specs.declared.Counters.{Counters}
 use Rattle.allocator_state.specs.Counters.{withFreedSlots}
 use Rattle.freeing.specs.Freeing.{ReleaseOf, releaseOf, Release, release, kept, withRecords, pushedFree, freed, runningAt, countedOrFreed}
-use Rattle.reserved_var.specs.ReservedVar.{numberOfPlace}
 use Rattle.mark_var.specs.MarkVar.{settled}
 
 -- a push that is not refused puts its variable behind all others
 pushed-joins :
-    (c : Counters) (list : List ℕ) (chunk v : ℕ) → length list ≡ freedSlots * 2 → pushedFree c list chunk v .released .refusal ≡ 0
+    (c : Counters) (list : List ℕ) (chunk v : ℕ) → length list ≡ freedSlots * entryCells → pushedFree c list chunk v .released .refusal ≡ 0
     → entries
     (pushedFree c list chunk v .list)
     (pushedFree c list chunk v .released .counters .«first_freed_slot»)
@@ -158,7 +158,7 @@ module _ (c : Counters) (records list : List ℕ) (context : GenContext) (v : �
 
         -- it joins the queue
         pub settled-joins :
-            length list ≡ freedSlots * 2
+            length list ≡ freedSlots * entryCells
             → settled c records list context v place .released .refusal ≡ 0
             → (older : List FreedSlot)
             × (entries

@@ -8,6 +8,7 @@ use Rattle.sizes.specs.Sizes.{variables, uses, registers, counters, freedRegist
 use Rattle.bit_set.specs.BitSet.{has}
 use Rattle.variable_records.specs.declared.Row.{Row}
 use Rattle.variable_records.specs.Rows.{unset, rowAt, isTemporary}
+use Rattle.register_sets.specs.RegisterSets.{setAt}
 use Rattle.shallow_temp_mappings.specs.Mappings.{unmapped}
 use Rattle.perm_free_list.specs.declared.FreedSlot.{FreedSlot}
 use Rattle.perm_free_list.specs.PermFreeList.{entryAt}
@@ -73,7 +74,7 @@ module _ (s : State) where
   variableFits v =
       rowFits (s .counters .records) (rowAt (s .records) v)
       && (usesFit (s .«use_sets») (s .«use_counts») v
-      && (isRegisterSet (getD (s .«no_use») v 0) && isRegisterSet (getD (s .conflict) v 0)))
+      && (isRegisterSet (setAt (s .«no_use») v) && isRegisterSet (setAt (s .conflict) v)))
 
   -- ---- The other tables
 

@@ -37,9 +37,9 @@ use branch_stack::BranchOccurrences;
 use branch_stack::BranchRows;
 use branch_stack::BranchSets;
 use debray_allocator::State;
-use evacuation::RegisterSets;
 use perm_free_list::FreedSlot;
 use perm_free_list::PermFreeList;
+use register_sets::RegisterSets;
 use shallow_temp_mappings::Mappings;
 use sizes::FREED_REGISTERS;
 use sizes::FREED_SLOTS;
@@ -148,8 +148,8 @@ fn variable_fits(
 {
     let of_row = row_fits(counters.records, variable_records::row_at(records, v));
     let of_uses = uses_fit(use_sets, use_counts, v);
-    let of_no_use = is_register_set(no_use[v as usize]);
-    let of_conflict = is_register_set(conflict[v as usize]);
+    let of_no_use = is_register_set(register_sets::load(no_use, v));
+    let of_conflict = is_register_set(register_sets::load(conflict, v));
     sizes::both(
         of_row,
         sizes::both(of_uses, sizes::both(of_no_use, of_conflict)),

@@ -12,11 +12,12 @@ use Rattle.variable_records.specs.declared.VarAlloc.{VarAlloc}
 use Rattle.variable_records.specs.declared.VarAlloc.the-variants.{Temp, Perm}
 use Rattle.variable_records.specs.declared.VariableRecord.{VariableRecord}
 use Rattle.variable_records.specs.Rows.{rowCells, rowAt, isTemporary}
+use Rattle.register_sets.specs.RegisterSets.{setAt}
 use Rattle.shallow_temp_mappings.specs.Mappings.{unmapped}
 use Rattle.perm_free_list.specs.declared.FreedSlot.{FreedSlot}
-use Rattle.perm_free_list.specs.PermFreeList.{entryAt}
+use Rattle.perm_free_list.specs.PermFreeList.{entryCells, entryAt}
 use Rattle.branch_stack.specs.declared.BranchOccurrences.{BranchOccurrences}
-use Rattle.branch_stack.specs.BranchStack.{occurrencesAt}
+use Rattle.branch_stack.specs.BranchStack.{numbersPerBranch, setsPerBranch, occurrencesAt}
 use Rattle.allocator_state.specs.declared.Counters.{Counters}
 use Rattle.events.specs.Events.{isUse}
 use Rattle.debray_allocator.specs.declared.State.{State}
@@ -97,7 +98,7 @@ module _ (k : Kinds) where
     pub variable : entry .variable < k .count
 
   pub record Queue (first count : ℕ) (list : List ℕ) : Type 0 where
-    pub full : length list ≡ freedSlots * 2
+    pub full : length list ≡ freedSlots * entryCells
     pub entry : (i : ℕ) → i < count → EntryFits (entryAt list first i)
 
   -- ---- The branches
@@ -113,8 +114,8 @@ module _ (k : Kinds) where
     pub hits : AllIn Permanent (branch .«subsumed_hits»)
 
   pub record Branches (opened : ℕ) (rows sets : List ℕ) : Type 0 where
-    pub rowsFull : length rows ≡ openBranches * 4
-    pub setsFull : length sets ≡ openBranches * 3
+    pub rowsFull : length rows ≡ openBranches * numbersPerBranch
+    pub setsFull : length sets ≡ openBranches * setsPerBranch
     pub level : (level : ℕ) → level < opened → BranchFits (occurrencesAt rows sets level)
 
 -- ---- The freed registers
@@ -146,8 +147,8 @@ pub record Uses (k : Kinds) (useSets useCounts : List ℕ) : Type 0 where
 pub record Restricted (k : Kinds) (noUse conflict : List ℕ) : Type 0 where
   pub noUseFull : length noUse ≡ variables
   pub conflictFull : length conflict ≡ variables
-  pub noUsed : (v : ℕ) → v < k .count → has (getD noUse v 0) 0 ≡ false
-  pub conflicts : (v : ℕ) → v < k .count → has (getD conflict v 0) 0 ≡ false
+  pub noUsed : (v : ℕ) → v < k .count → has (setAt noUse v) 0 ≡ false
+  pub conflicts : (v : ℕ) → v < k .count → has (setAt conflict v) 0 ≡ false
 
 -- ---- A state
 
@@ -167,6 +168,6 @@ pub record Full (s : State) : Type 0 where
   pub conflict : length (s .conflict) ≡ variables
   pub mappings : length (s .mappings) ≡ registers + 1
   pub given : length (s .«freed_registers») ≡ freedRegisters
-  pub queue : length (s .«freed_slots») ≡ freedSlots * 2
-  pub branchRows : length (s .«branch_rows») ≡ openBranches * 4
-  pub branchSets : length (s .«branch_sets») ≡ openBranches * 3
+  pub queue : length (s .«freed_slots») ≡ freedSlots * entryCells
+  pub branchRows : length (s .«branch_rows») ≡ openBranches * numbersPerBranch
+  pub branchSets : length (s .«branch_sets») ≡ openBranches * setsPerBranch

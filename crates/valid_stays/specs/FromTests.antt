@@ -11,6 +11,7 @@ use Rattle.sizes.specs.Sizes.{variables, uses, registers, counters, freedRegist
 use Rattle.sizes.specs.SizesLaws.{register-exactly}
 use Rattle.bit_set.specs.BitSet.{has}
 use Rattle.variable_records.specs.Rows.{rowAt, isTemporary}
+use Rattle.register_sets.specs.RegisterSets.{setAt}
 use Rattle.shallow_temp_mappings.specs.Mappings.{unmapped}
 use Rattle.perm_free_list.specs.PermFreeList.{entryAt}
 use Rattle.branch_stack.specs.declared.BranchOccurrences.{BranchOccurrences}
@@ -107,8 +108,8 @@ pub record VariableSaid (s : State) (v : ℕ) : Type 0 where
   pub row : rowFits (s .counters .records) (rowAt (s .records) v) ≡ true
   pub count : getD (s .«use_counts») v 0 ≤ uses
   pub each : (i : ℕ) → i < getD (s .«use_counts») v 0 → isUse (getD (s .«use_sets») (v * uses + i) 0) ≡ true
-  pub noUse : has (getD (s .«no_use») v 0) 0 ≡ false
-  pub conflict : has (getD (s .conflict) v 0) 0 ≡ false
+  pub noUse : has (setAt (s .«no_use») v) 0 ≡ false
+  pub conflict : has (setAt (s .conflict) v) 0 ≡ false
 
 variable-said : (s : State) (v : ℕ) → variableFits s v ≡ true → VariableSaid s v
 variable-said s v e =
@@ -116,7 +117,7 @@ variable-said s v e =
     let row = both-true (rowFits (s .counters .records) (rowAt (s .records) v)) _ e in
     let used = both-true (usesFit (s .«use_sets») (s .«use_counts») v) _ (row .1) in
     let u = both-true (leb count uses) (allBelow count (λ i. isUse (getD (s .«use_sets») (v * uses + i) 0))) (used .0) in
-    let sets = both-true (isRegisterSet (getD (s .«no_use») v 0)) (isRegisterSet (getD (s .conflict) v 0)) (used .1) in
+    let sets = both-true (isRegisterSet (setAt (s .«no_use») v)) (isRegisterSet (setAt (s .conflict) v)) (used .1) in
     record {
       row = row .0;
       count = leb-true _ _ (u .0);

@@ -18,3 +18,4 @@ pub mod OfSteps
 pub mod FromTests
 pub mod ToTests
 pub mod ValidStays
+pub mod Reachable

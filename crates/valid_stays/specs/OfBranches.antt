@@ -10,8 +10,8 @@ use borrow.Author.Tests.{eqb-true, eqb-false, leb-true, leb-false}
 use Rattle.notation.specs.Choice.{if_then_else_}
 use Rattle.notation.specs.ChoiceLaws.{either, by-test}
 use Rattle.notation.specs.Lists.{numbersFrom}
-use Rattle.sizes.specs.Sizes.{variables, registers, counts, openBranches}
-use Rattle.bit_set.specs.BitSet.{has, emptySet, inserted, union}
+use Rattle.sizes.specs.Sizes.{variables, counts, openBranches}
+use Rattle.bit_set.specs.BitSet.{lastMember, has, emptySet, inserted, union}
 use Rattle.bit_set.specs.BitSetLaws.{has-empty, has-inserted, inserted-outside, has-union}
 use Rattle.forms.specs.declared.Branch.{Branch}
 use Rattle.forms.specs.Forms.{defaultBranch}
@@ -33,11 +33,11 @@ module _ (P : ℕ → Type 0) where
 
   pub all-inserted : (set n : ℕ) → AllIn P set → P n → AllIn P (inserted set n)
   all-inserted set n all p v h =
-      elim (leb n registers) as (λ t. leb n registers ≡ t → has (inserted set n) v ≡ true → P v) [
+      elim (leb n lastMember) as (λ t. leb n lastMember ≡ t → has (inserted set n) v ≡ true → P v) [
         | true ↦ λ e member.
             ⊎-elim (all v h) (λ same. subst P (sym (eqb-true v n same)) p)
-            (one-of (has set v) (eqb v n) (sym (has-inserted set n v (leb-true n registers e)) ∙ member))
-        | false ↦ λ e member. all v h (subst (λ (s : ℕ). has s v ≡ true) (inserted-outside set n (leb-false n registers e)) member)
+            (one-of (has set v) (eqb v n) (sym (has-inserted set n v (leb-true n lastMember e)) ∙ member))
+        | false ↦ λ e member. all v h (subst (λ (s : ℕ). has s v ≡ true) (inserted-outside set n (leb-false n lastMember e)) member)
       ]
       refl
 

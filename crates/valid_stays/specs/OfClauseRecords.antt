@@ -18,6 +18,8 @@ use Rattle.variable_records.specs.declared.VariableRecord.{VariableRecord}
 use Rattle.variable_records.specs.declared.Row.{Row}
 use Rattle.variable_records.specs.Rows.{unset, rowAt, recordPut, temporary, isTemporary}
 use Rattle.variable_records.specs.TableLaws.{record-put-same, record-put-other, record-put-length}
+use Rattle.register_sets.specs.RegisterSets.{setAt, setPut}
+use Rattle.register_sets.specs.RegisterSetsLaws.{set-put-same, set-put-other, set-put-length}
 use Rattle.temp_var_data.specs.Uses.{takesUse, useSetsWith, useCountsWith}
 use Rattle.branches.specs.Lists.{each}
 use Rattle.allocator_state.specs.declared.Counters.{Counters}
@@ -176,28 +178,27 @@ grown-valid {k} {c} {records} h variable room fits =
 
 module _ (k after : Kinds) (v : ℕ) (last : after .count ≡ k .count + 1) (here : v ≡ k .count) (room : v < variables) where
   set-emptied :
-      (table : List ℕ) → length table ≡ variables → ((w : ℕ) → w < k .count → has (getD table w 0) 0 ≡ false)
-      → (w : ℕ) → w < after .count → has (getD (set table (v % variables) emptySet) w 0) 0 ≡ false
+      (table : List ℕ) → length table ≡ variables → ((w : ℕ) → w < k .count → has (setAt table w) 0 ≡ false)
+      → (w : ℕ) → w < after .count → has (setAt (setPut table v emptySet) w) 0 ≡ false
   set-emptied table full every w h =
-      let at : v % variables ≡ v = omega arith in
-      rw at
-      (elim (eqb w v) as (λ t. eqb w v ≡ t → has (getD (set table v emptySet) w 0) 0 ≡ false) [
+      elim (eqb w v) as (λ t. eqb w v ≡ t → has (setAt (setPut table v emptySet) w) 0 ≡ false) [
         | true ↦ λ e.
-            subst (λ (w : ℕ). has (getD (set table v emptySet) w 0) 0 ≡ false) (sym (eqb-true w v e))
-            (ap (λ (s : ℕ). has s 0) (getD-set-same table v emptySet 0 (omega arith)) ∙ has-empty 0)
+            subst (λ (w : ℕ). has (setAt (setPut table v emptySet) w) 0 ≡ false) (sym (eqb-true w v e))
+            (ap (λ (s : ℕ). has s 0) (set-put-same table v emptySet full) ∙ has-empty 0)
         | false ↦ λ e.
             let differ = eqb-false w v e in
-            ap (λ (s : ℕ). has s 0) (getD-set-other table v w emptySet 0 differ) ∙ every w (omega arith)
+            ap (λ (s : ℕ). has s 0) (set-put-other table v w emptySet room (omega arith) (λ same. differ (sym same)))
+            ∙ every w (omega arith)
       ]
-      refl)
+      refl
 
   pub restricted-more :
       {noUse conflict : List ℕ} → Restricted k noUse conflict
-      → Restricted after (set noUse (v % variables) emptySet) (set conflict (v % variables) emptySet)
+      → Restricted after (setPut noUse v emptySet) (setPut conflict v emptySet)
   restricted-more {noUse} {conflict} was =
       record {
-        noUseFull = length-set noUse (v % variables) emptySet ∙ was .noUseFull;
-        conflictFull = length-set conflict (v % variables) emptySet ∙ was .conflictFull;
+        noUseFull = set-put-length noUse v emptySet ∙ was .noUseFull;
+        conflictFull = set-put-length conflict v emptySet ∙ was .conflictFull;
         noUsed = set-emptied noUse (was .noUseFull) (was .noUsed);
         conflicts = set-emptied conflict (was .conflictFull) (was .conflicts);
       }

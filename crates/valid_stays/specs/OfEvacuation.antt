@@ -17,6 +17,7 @@ use Rattle.bit_set.specs.BitSet.{has, union}
 use Rattle.code_deque.specs.declared.CodeDeque.{CodeDeque}
 use Rattle.variable_records.specs.Rows.{isTemporary}
 use Rattle.shallow_temp_mappings.specs.Mappings.{unmapped, mappedAt}
+use Rattle.register_sets.specs.RegisterSets.{setAt}
 use Rattle.temp_var_data.specs.Uses.{registerOf, contextOf, usesOf, containsUse, useCode, lastContext}
 use Rattle.allocator_state.specs.declared.Counters.{Counters}
 use Rattle.choice.specs.declared.Chosen.{Chosen}
@@ -24,7 +25,7 @@ use Rattle.choice.specs.declared.Chosen.the-variants.{Register, NoRegister}
 use Rattle.choice.specs.Choice.{inUse, isFree, first, registersFrom, firstUnused, leastFree, leastOutside, otherwise, chosen}
 use Rattle.evacuation.specs.declared.Hint.{Hint}
 use Rattle.evacuation.specs.declared.Hint.the-variants.{Stays, Moves, NoRegister as Nowhere}
-use Rattle.evacuation.specs.Evacuation.{Sets, Evacuation, allocWithCr, allocWithCa, setAt, hint, hintTo, movedTo, evacuatedBy, evacuated}
+use Rattle.evacuation.specs.Evacuation.{Sets, Evacuation, allocWithCr, allocWithCa, hint, hintTo, movedTo, evacuatedBy, evacuated}
 use Rattle.events.specs.Events.{isUse, isContext}
 use Rattle.invariants.specs.Lists.{All, all-map}
 use Rattle.valid_stays.specs.Fits.{Kinds, Placed, Counts, Temporary, Valid, Uses}

@@ -11,6 +11,7 @@ use Rattle.notation.specs.ChoiceLaws.{either, by-test}
 use Rattle.sizes.specs.Sizes.{registers, chunks}
 use Rattle.registers.specs.declared.RegType.{RegType}
 use Rattle.registers.specs.declared.RegType.the-variants.{Temp as TempRegister, Perm as PermSlot}
+use Rattle.registers.specs.Registers.{numberOfPlace}
 use Rattle.code_deque.specs.declared.CodeDeque.{CodeDeque}
 use Rattle.code_deque.specs.declared.CodeDeque.the-variants.{Empty}
 use Rattle.forms.specs.Forms.{chunkNum}
@@ -31,7 +32,6 @@ use Rattle.choice.specs.declared.Chosen.the-variants.{Register, NoRegister}
 use Rattle.evacuation.specs.declared.Reached.{Reached}
 use Rattle.evacuation.specs.Evacuation.{Sets, Evacuation, allocWithCr, allocWithCa, goingOn, evacuated}
 use Rattle.allocation.specs.Allocation.{Placement, permPlaced}
-use Rattle.reserved_var.specs.ReservedVar.{numberOfPlace}
 use Rattle.marks.specs.Marks.{RegisterPlacement, chosenOrRefused, allocApart, afterEvacuation, allocShallow, registerPlaced}
 use Rattle.mark_var.specs.declared.Mark.{Mark}
 use Rattle.mark_var.specs.MarkVar.{Noted, notedSlot, noted, settled, Marking, finishedAfter, finished, instructedAt, instructedFor, reservedAfter, reservedMarked}

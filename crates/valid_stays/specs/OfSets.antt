@@ -6,17 +6,18 @@ use mathlib.Core.Bool.{true, false, false≢true}
 use mathlib.Core.List.{List, [], _∷_, map, List·Memᴰ·not-nil, List·Memᴰ·cases-cons}
 use native.Mathlib.Omega.{arith}
 use lib.Dec.{leb}
-use lib.ListN.{getD}
 use borrow.Author.Tests.{leb-true, leb-false, le-leb}
 use Rattle.sizes.specs.Sizes.{variables, chunks as lastChunk}
 use Rattle.bit_set.specs.BitSet.{has}
+use Rattle.register_sets.specs.RegisterSets.{setAt}
 use Rattle.temp_var_data.specs.Lists.{_∈_}
 use Rattle.temp_var_data.specs.TestLaws.{refuted}
 use Rattle.temp_var_data.specs.Uses.{registerOf, useCode, lastContext, usesOf}
 use Rattle.temp_var_data.specs.ConflictLaws.{conflict-exactly}
-use Rattle.restricting_sets.specs.Restricting.{below, rowsAnew, noChunk, chunkOf, isTemporary as hasChunk, noUseOf, conflictAt}
+use Rattle.restricting_sets.specs.Restricting.{below, setsAnew, noChunk, chunkOf, isTemporary as hasChunk, noUseOf, conflictAt}
 use Rattle.restricting_sets.specs.BelowLaws.{map-length, map-at}
 use Rattle.restricting_sets.specs.RowsLaws.{any-default}
+use Rattle.restricting_sets.specs.AnewLaws.{anew-length}
 use Rattle.restricting_sets.specs.RestrictingLaws.{no-use-exactly, conflict-anew, no-use-stays, conflict-stays}
 use Rattle.allocator_state.specs.declared.Counters.{Counters}
 use Rattle.clause_records.specs.ClauseRecords.{chunkAt, chunksOf, Restricting, populated}
@@ -57,40 +58,40 @@ module _ (k : Kinds) (c : Counters) (n : Counts k c) (records useSets useCounts 
     abbrev chunks : List ℕ
     chunks = chunksOf c records
 
-    no-use-anew : has (getD (rowsAnew (noUseOf useSets useCounts chunks) noUse) v 0) 0 ≡ false
+    no-use-anew : has (setAt (setsAnew (noUseOf useSets useCounts chunks) noUse) v) 0 ≡ false
     no-use-anew =
         let inside : v < variables = omega (arith, k .small) in
         elim (hasChunk chunks v) as
-        (λ t. hasChunk chunks v ≡ t → has (getD (rowsAnew (noUseOf useSets useCounts chunks) noUse) v 0) 0 ≡ false) [
+        (λ t. hasChunk chunks v ≡ t → has (setAt (setsAnew (noUseOf useSets useCounts chunks) noUse) v) 0 ≡ false) [
           | true ↦ λ e.
               refuted _ (λ member. ⊎-elim (λ there. false≢true (sym (was .noUsed v known) ∙ there))
               (λ u. no-use-of-none (u .0) (lastContext (chunkOf chunks v))
               (omega (arith, n .records, chunk-known c records (u .0) (u .1) (u .2 .0))) (u .2 .2))
-              (no-use-exactly useSets useCounts chunks v 0 noUse inside e (omega arith) .0 member))
-          | false ↦ λ e. ap (λ (s : ℕ). has s 0) (no-use-stays useSets useCounts chunks v inside noUse e) ∙ was .noUsed v known
+              (no-use-exactly useSets useCounts chunks v 0 noUse (was .noUseFull) inside e (omega arith) .0 member))
+          | false ↦ λ e. ap (λ (s : ℕ). has s 0) (no-use-stays useSets useCounts chunks v inside noUse (was .noUseFull) e) ∙ was .noUsed v known
         ]
         refl
 
-    conflict-of-none : has (getD (rowsAnew (conflictAt useSets useCounts chunks) conflict) v 0) 0 ≡ false
+    conflict-of-none : has (setAt (setsAnew (conflictAt useSets useCounts chunks) conflict) v) 0 ≡ false
     conflict-of-none =
         let inside : v < variables = omega (arith, k .small) in
         elim (hasChunk chunks v) as
-        (λ t. hasChunk chunks v ≡ t → has (getD (rowsAnew (conflictAt useSets useCounts chunks) conflict) v 0) 0 ≡ false) [
+        (λ t. hasChunk chunks v ≡ t → has (setAt (setsAnew (conflictAt useSets useCounts chunks) conflict) v) 0 ≡ false) [
           | true ↦ λ e.
-              ap (λ (s : ℕ). has s 0) (conflict-anew useSets useCounts chunks v inside conflict e)
+              ap (λ (s : ℕ). has s 0) (conflict-anew useSets useCounts chunks v inside conflict (was .conflictFull) e)
               ∙ refuted _ (λ member. (let m = conflict-exactly (usesOf useSets useCounts v) 0 (omega arith) .0 member in omega (arith, m .0)))
-          | false ↦ λ e. ap (λ (s : ℕ). has s 0) (conflict-stays useSets useCounts chunks v inside conflict e) ∙ was .conflicts v known
+          | false ↦ λ e. ap (λ (s : ℕ). has s 0) (conflict-stays useSets useCounts chunks v inside conflict (was .conflictFull) e) ∙ was .conflicts v known
         ]
         refl
 
   pub populated-restricted :
       (s : Restricting) → Restricted k (s .noUse) (s .conflict)
       → Restricted k (populated c records useSets useCounts s .noUse) (populated c records useSets useCounts s .conflict)
-  unfolding populated rowsAnew
+  unfolding populated
   populated-restricted s was =
       record {
-        noUseFull = map-length _ variables;
-        conflictFull = map-length _ variables;
+        noUseFull = anew-length _ (s .noUse) ∙ was .noUseFull;
+        conflictFull = anew-length _ (s .conflict) ∙ was .conflictFull;
         noUsed = no-use-anew (s .noUse) (s .conflict) was;
         conflicts = conflict-of-none (s .noUse) (s .conflict) was;
       }

@@ -22,18 +22,15 @@ use Rattle.variable_records.specs.declared.VarAlloc.the-variants.{Temp, Perm}
 use Rattle.variable_records.specs.declared.VariableRecord.{VariableRecord}
 use Rattle.variable_records.specs.declared.Row.{Row}
 use Rattle.variable_records.specs.Records.{placedAlloc, placedAt}
-use Rattle.variable_records.specs.Rows.{safetyRowOf, contextCode, contextOf, allocationOf, recordOf, rowOf, rowCells, rowStart, rowAt, rowPut, recordAt, recordPut, temporary, isTemporary}
+use Rattle.variable_records.specs.Rows.{safetyRowOf, contextCode, contextOf, allocationOf, recordOf, rowOf, rowCells, filledCells, rowStart, rowAt, rowPut, recordAt, recordPut, temporary, isTemporary}
 use Rattle.variable_records.specs.TableLaws.{record-put-same, record-put-other, record-put-length}
 use Rattle.valid_states.specs.ValidStates.{namesNoneOr, rowFits}
 use Rattle.valid_stays.specs.Fits.{Kinds, AllocFits, RecordFits, Records}
 
 -- ---- The row that is put, and the others
 
-abbrev filled : ℕ
-filled = 14
-
 abbrev numbersOf : VariableRecord → List ℕ
-numbersOf variable = rowPut (replicate filled 0) 0 (rowOf variable)
+numbersOf variable = rowPut (replicate filledCells 0) 0 (rowOf variable)
 
 abbrev rowFrom : List ℕ → Row
 rowFrom numbers = rowAt numbers 0
@@ -51,7 +48,7 @@ pub row-put-other :
 unfolding recordPut
 row-put-other records v w variable hv hw differ =
     let apart : v % variables ≢ w % variables = omega arith in
-    ap rowFrom (cells-put-other rowCells _ _ apart records (numbersOf variable) (omega arith) 0 filled (omega arith))
+    ap rowFrom (cells-put-other rowCells _ _ apart records (numbersOf variable) (omega arith) 0 filledCells (omega arith))
 
 -- ---- A row that fits holds a record that does
 

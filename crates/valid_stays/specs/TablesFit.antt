@@ -12,12 +12,12 @@ use lib.Seq.{getD-set-same, getD-set-other}
 use borrow.Author.Tests.{ltb-true, leb-true, leb-false, eqb-true, eqb-false, ne-eqb}
 use Rattle.notation.specs.ChoiceLaws.{either, by-test}
 use Rattle.sizes.specs.Sizes.{variables, registers, counters, freedRegisters, freedSlots}
-use Rattle.bit_set.specs.BitSet.{has, inserted, removed}
+use Rattle.bit_set.specs.BitSet.{lastMember, has, inserted, removed}
 use Rattle.bit_set.specs.BitSetLaws.{has-inserted, inserted-outside}
 use Rattle.bit_set.specs.DigitLaws.{has-and}
 use Rattle.shallow_temp_mappings.specs.Mappings.{unmapped, mappedAt, mappedWith}
 use Rattle.perm_free_list.specs.declared.FreedSlot.{FreedSlot}
-use Rattle.perm_free_list.specs.PermFreeList.{entryAt, entryPut}
+use Rattle.perm_free_list.specs.PermFreeList.{entryCells, entryAt, entryPut}
 use Rattle.perm_free_list.specs.TableLaws.{entry-put-same, entry-put-other, entry-put-length}
 use Rattle.allocator_state.specs.State.{counterAfter}
 use Rattle.valid_stays.specs.Fits.{Kinds, Placed, Counter, Temporary, Named, Mappings, EntryFits, Queue, Freed}
@@ -33,15 +33,15 @@ counter-after n =
 -- a set without 0 stays so
 pub inserted-usable : (s n : ℕ) → has s 0 ≡ false → 1 ≤ n → has (inserted s n) 0 ≡ false
 inserted-usable s n h some =
-    elim (leb n registers) as (λ t. leb n registers ≡ t → has (inserted s n) 0 ≡ false) [
-      | true ↦ λ e. simp (has-inserted s n 0 (leb-true n registers e), h, ne-eqb 0 n (omega arith))
-      | false ↦ λ e. simp (inserted-outside s n (leb-false n registers e), h)
+    elim (leb n lastMember) as (λ t. leb n lastMember ≡ t → has (inserted s n) 0 ≡ false) [
+      | true ↦ λ e. simp (has-inserted s n 0 (leb-true n lastMember e), h, ne-eqb 0 n (omega arith))
+      | false ↦ λ e. simp (inserted-outside s n (leb-false n lastMember e), h)
     ]
     refl
 
 pub removed-usable : (s n : ℕ) → has s 0 ≡ false → has (removed s n) 0 ≡ false
 unfolding removed
-removed-usable s n h = either (λ (t : ℕ). has t 0 ≡ false) (leb n registers) (simp (has-and, h)) h
+removed-usable s n h = either (λ (t : ℕ). has t 0 ≡ false) (leb n lastMember) (simp (has-and, h)) h
 
 -- ---- Tables
 
@@ -53,7 +53,7 @@ turned f d i =
     rw (mod-mod (f + d) freedSlots, mod-add-mod (f + d) freedSlots i) (ap (λ (n : ℕ). n % freedSlots) same)
 
 abbrev entryFrom : List ℕ → ℕ → FreedSlot
-entryFrom list place = record { chunk = getD list (place * 2) 0; variable = getD list (place * 2 + 1) 0 }
+entryFrom list place = record { chunk = getD list (place * entryCells) 0; variable = getD list (place * entryCells + 1) 0 }
 
 module _ (k : Kinds) where
   -- who is mapped, and not to none, is a temporary

@@ -11,6 +11,7 @@ use Rattle.sizes.specs.Sizes.{variables, uses, registers, counters, isChunk, is
 use Rattle.sizes.specs.SizesLaws.{register-exactly}
 use Rattle.bit_set.specs.BitSet.{has}
 use Rattle.variable_records.specs.Rows.{rowAt, isTemporary}
+use Rattle.register_sets.specs.RegisterSets.{setAt}
 use Rattle.shallow_temp_mappings.specs.Mappings.{unmapped}
 use Rattle.perm_free_list.specs.PermFreeList.{entryAt}
 use Rattle.branch_stack.specs.declared.BranchOccurrences.{BranchOccurrences}
@@ -59,7 +60,7 @@ module _ (s : State) (k : Kinds) (fits : StateFits k s) where
       (both-so (usesFit (s .«use_sets») (s .«use_counts») v) _
       (both-so (leb count uses) _ (le-leb _ _ (fits .uses .count v known))
       (below-so (λ i. isUse (getD (s .«use_sets») (v * uses + i) 0)) count (fits .uses .each v known)))
-      (both-so (isRegisterSet (getD (s .«no_use») v 0)) (isRegisterSet (getD (s .conflict) v 0)) (not-so _ (fits .restricted .noUsed v known))
+      (both-so (isRegisterSet (setAt (s .«no_use») v)) (isRegisterSet (setAt (s .conflict) v)) (not-so _ (fits .restricted .noUsed v known))
       (not-so _ (fits .restricted .conflicts v known))))
 
   mapping-fits : (r : ℕ) → r < registers + 1 → mappingFits s r ≡ true

@@ -120,10 +120,14 @@ counted occurrences running row =
 abbrev pub rowOf : VariableRecord → Row
 rowOf variable = counted (variable .«num_occurrences») (variable .«running_count») (allocationRow (variable .allocation))
 
--- ---- The table: a row a variable, sixteen cells a row
+-- ---- The table: a row a variable
 
 abbrev pub rowCells : ℕ
 rowCells = 16
+
+-- as many of them hold numbers
+abbrev pub filledCells : ℕ
+filledCells = 14
 
 -- a number of no variable is taken modulo the number of variables
 abbrev pub rowStart : ℕ → ℕ

@@ -8,16 +8,12 @@ use lib.ListN.{length, replicate}
 use Rattle.notation.specs.ListLaws.{cells-put-same, cells-put-other, length-put}
 use Rattle.sizes.specs.Sizes.{variables}
 use Rattle.variable_records.specs.declared.VariableRecord.{VariableRecord}
-use Rattle.variable_records.specs.Rows.{recordOf, rowOf, rowCells, rowStart, rowAt, rowPut, recordAt, recordPut}
+use Rattle.variable_records.specs.Rows.{recordOf, rowOf, rowCells, filledCells, rowStart, rowAt, rowPut, recordAt, recordPut}
 use Rattle.variable_records.specs.RowsLaws.{record-row}
-
--- the cells of a row that hold numbers
-abbrev filled : ℕ
-filled = 14
 
 -- the numbers of a record: a table of its row alone
 abbrev numbersOf : VariableRecord → List ℕ
-numbersOf variable = rowPut (replicate filled 0) 0 (rowOf variable)
+numbersOf variable = rowPut (replicate filledCells 0) 0 (rowOf variable)
 
 abbrev recordFrom : List ℕ → VariableRecord
 recordFrom numbers = recordOf (rowAt numbers 0)
@@ -35,7 +31,7 @@ pub record-put-other :
 unfolding recordAt recordPut
 record-put-other records v w variable hv hw differ =
     let apart : v % variables ≢ w % variables = omega arith in
-    ap recordFrom (cells-put-other rowCells _ _ apart records (numbersOf variable) (omega arith) 0 filled (omega arith))
+    ap recordFrom (cells-put-other rowCells _ _ apart records (numbersOf variable) (omega arith) 0 filledCells (omega arith))
 
 pub record-put-length :
     (records : List ℕ) (v : ℕ) (variable : VariableRecord) → length (recordPut records v variable) ≡ length records

@@ -26,13 +26,13 @@ use registers::RegType;
 use sizes::VARIABLES;
 
 // The cells of a row, and of all rows.
-pub const ROW: usize = 16;
+pub const ROW_CELLS: usize = 16;
 
-pub const CELLS: usize = VARIABLES * ROW;
+pub const TABLE_CELLS: usize = VARIABLES * ROW_CELLS;
 // In the place of a variable's number: no variable.
 pub const UNSET: u32 = VARIABLES as u32;
 
-pub type Records = [u32; CELLS];
+pub type Records = [u32; TABLE_CELLS];
 
 // Whether a value in a variable may lie on the stack, so that handing it on has to be guarded: it may; not within the
 // branch that guarded it last; or nowhere.
@@ -271,7 +271,7 @@ pub fn row_of(variable: VariableRecord) -> Row
 pub fn row_at(records: &Records, v: u32) -> Row
     ensures { λ r. ⌜ r ≡ rowAt (now (records .entry)) v ⌝ }
 {
-    let at = (v % UNSET) as usize * ROW;
+    let at = (v % UNSET) as usize * ROW_CELLS;
     Row {
         kind: records[at],
         context: records[at + 1],
@@ -298,7 +298,7 @@ pub fn row_at(records: &Records, v: u32) -> Row
 fn put_row(records: &mut Records, v: u32, row: Row)
     ensures { λ _. ⌜ now (records .exit) ≡ rowPut (now (records .entry)) v row ⌝ }
 {
-    let at = (v % UNSET) as usize * ROW;
+    let at = (v % UNSET) as usize * ROW_CELLS;
     records[at] = row.kind;
     records[at + 1] = row.context;
     records[at + 2] = row.chunk;

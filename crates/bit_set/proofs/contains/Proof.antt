@@ -1,4 +1,4 @@
--- `bit_set::contains`: the mask reads the member's digit, and past the last register there is none. Assumes nothing.
+-- `bit_set::contains`: the mask reads the member's digit, and past the last one there is none. Assumes nothing.
 use mathlib.Core.Path.{sym}
 use native.Mathlib.Omega.{arith}
 use borrow.Author.Needs.{needs}

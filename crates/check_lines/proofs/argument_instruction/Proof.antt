@@ -1,7 +1,7 @@
 -- `check_lines::argument_instruction`: each way of the code is a case of the definition. Assumes nothing.
 use borrow.Author.Tests.{ne-eqb}
 use borrow.Author.Needs.{needs}
-use Rattle.check_lines.specs.Codes.{argumentInstruction}
+use Rattle.check_lines.specs.Reading.{argumentInstruction}
 use Rattle.check_lines.proofs.argument_instruction.Statement.{statement}
 use Rattle.check_lines.proofs.argument_instruction.Tie as tie
 

@@ -1,6 +1,6 @@
 -- `check_lines::argument_step`: each way of the code is a case of the definition. Assumes nothing.
 use borrow.Author.Tests.{ne-eqb}
-use Rattle.check_lines.specs.Codes.{argumentStep}
+use Rattle.check_lines.specs.Reading.{argumentStep}
 use Rattle.check_lines.proofs.argument_step.Statement.{statement}
 use Rattle.check_lines.proofs.argument_step.Tie as tie
 

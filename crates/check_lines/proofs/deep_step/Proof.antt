@@ -1,6 +1,6 @@
 -- `check_lines::deep_step`: each way of the code is a case of the definition. Assumes nothing.
 use borrow.Author.Tests.{ne-eqb}
-use Rattle.check_lines.specs.Codes.{deepStep}
+use Rattle.check_lines.specs.Reading.{deepStep}
 use Rattle.check_lines.proofs.deep_step.Statement.{statement}
 use Rattle.check_lines.proofs.deep_step.Tie as tie
 

@@ -1,6 +1,6 @@
 -- `check_lines::field_of`: each way of the code is a case of the definition. Assumes nothing.
 use borrow.Author.Needs.{needs}
-use Rattle.check_lines.specs.CheckLines.{fieldOf}
+use Rattle.check_lines.specs.Reading.{fieldOf}
 use Rattle.check_lines.proofs.field_of.Statement.{statement}
 use Rattle.check_lines.proofs.field_of.Tie as tie
 

@@ -1,6 +1,6 @@
 -- `check_lines::no_field`: each way of the code is a case of the definition. Assumes nothing.
 use borrow.Author.Tests.{ne-eqb}
-use Rattle.check_lines.specs.Codes.{noField}
+use Rattle.check_lines.specs.Reading.{noField}
 use Rattle.check_lines.proofs.no_field.Statement.{statement}
 use Rattle.check_lines.proofs.no_field.Tie as tie
 

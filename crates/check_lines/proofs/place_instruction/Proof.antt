@@ -1,6 +1,6 @@
 -- `check_lines::place_instruction`: each way of the code is a case of the definition. Assumes nothing.
 use borrow.Author.Tests.{ne-eqb}
-use Rattle.check_lines.specs.Codes.{placeInstruction}
+use Rattle.check_lines.specs.Reading.{placeInstruction}
 use Rattle.check_lines.proofs.place_instruction.Statement.{statement}
 use Rattle.check_lines.proofs.place_instruction.Tie as tie
 

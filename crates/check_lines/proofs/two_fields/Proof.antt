@@ -1,5 +1,7 @@
 -- `check_lines::two_fields`: each way of the code is a case of the definition. Assumes nothing.
+use mathlib.Core.Path.{sym}
 use borrow.Author.Needs.{needs}
+use Rattle.check_lines.specs.ReadingLaws.{by-none}
 use Rattle.check_lines.proofs.two_fields.Statement.{statement}
 use Rattle.check_lines.proofs.two_fields.Tie as tie
 
@@ -44,7 +46,7 @@ returns-3 : tie.Need-returns-3
 returns-3 c = simp (c .before .before .before .second .given .1, c .enum-told .given .1)
 
 returns-4 : tie.Need-returns-4
-returns-4 c = simp (c .enum-told2 .given .1)
+returns-4 c = simp (c .enum-told2 .given .1) (sym (by-none (c .before .before .args .first)))
 
 pub two-fields-spec : {M : Type 1} → statement M
 two-fields-spec =

@@ -1,7 +1,7 @@
 -- `check_lines::word_code`: each way of the code is a case of the definition. Assumes nothing.
 use borrow.Author.Needs.{needs}
 use Rattle.words.specs.Words.{codeAmong}
-use Rattle.check_lines.specs.Codes.{wordCode}
+use Rattle.check_lines.specs.Reading.{wordCode}
 use Rattle.check_lines.proofs.word_code.Statement.{statement}
 use Rattle.check_lines.proofs.word_code.Tie as tie
 

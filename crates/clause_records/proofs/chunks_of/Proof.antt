@@ -1,26 +1,27 @@
 -- `clause_records::chunks_of`: the chunks of the variables passed are there. The measure is how many are left.
 -- Assumes nothing.
 use Prim.Native.Nat.{_-_, _≤_}
+use mathlib.Core.Path.{_≡_, _∙_}
 use native.Mathlib.Numerals.{add-one}
 use native.Mathlib.Omega.{arith}
-use lib.ListN.{length-replicate}
+use lib.ListN.{length, length-replicate}
 use borrow.Author.Needs.{needs}
 use Rattle.sizes.specs.Sizes.{variables}
-use Rattle.restricting_sets.specs.Restricting.{noChunk, rowsAnew}
-use Rattle.restricting_sets.specs.RowsLaws.{Anew, anew-start, anew-next, anew-end}
+use Rattle.restricting_sets.specs.Restricting.{noChunk}
+use Rattle.restricting_sets.specs.RowsLaws.{firstMade, made-none, made-next, made-end}
 use Rattle.clause_records.specs.ClauseRecords.{chunkAt, chunksOf}
 use Rattle.clause_records.proofs.chunks_of.Statement.{statement}
 use Rattle.clause_records.proofs.chunks_of.Tie as tie
 
 abbrev Inv-loop : tie.InvT-loop
 Inv-loop counters records chunks₀ v₀ chunks v =
-    (v ≤ variables) × Anew (λ none v. chunkAt counters records v) chunks₀ v chunks
+    (v ≤ variables) × (length chunks₀ ≡ variables) × (chunks ≡ firstMade (chunkAt counters records) chunks₀ v)
 
 abbrev μ-loop : tie.MeasureT-loop
 μ-loop counters records chunks₀ v₀ chunks v = variables - v
 
 loop-holds : tie.Need-loop-holds Inv-loop μ-loop
-loop-holds c = (omega arith, anew-start _ _ (length-replicate variables noChunk))
+loop-holds c = (omega arith, length-replicate variables noChunk, made-none _ _)
 
 cast-loop : tie.Need-cast-loop Inv-loop μ-loop
 cast-loop c = search needs
@@ -46,11 +47,11 @@ loop-less c = search needs
 loop-again : tie.Need-loop-again Inv-loop μ-loop
 loop-again c =
     let l = c .before .before .loop in
-    (omega arith, rw (add-one (l .v), c .chunk-at .ensures) (anew-next _ _ (l .v) (l .chunks) (c .before .loop-test .taken) (l .inv .1)))
+    (omega arith, l .inv .1, rw (add-one (l .v), c .chunk-at .ensures, l .inv .2) (made-next _ _ (l .v) (omega (arith, l .inv .1, c .before .loop-test .taken))))
 
 returns : tie.Need-returns Inv-loop μ-loop
-unfolding chunksOf rowsAnew
-returns c = let l = c .before .loop in anew-end _ _ (l .v) _ (omega arith) (l .inv .1)
+unfolding chunksOf
+returns c = let l = c .before .loop in l .inv .2 ∙ made-end _ _ (l .v) variables (omega arith) (l .inv .1)
 
 pub chunks-of-spec : {M : Type 1} → statement M
 chunks-of-spec =

@@ -5,7 +5,7 @@ use borrow.Author.Needs.{needs}
 use Rattle.split.specs.Split.{tab}
 use Rattle.fields.specs.Fields.{fieldsLeft}
 use Rattle.event_lines.specs.ReadLaws.{said-unknown, said-bare, said-one, said-two, said-three, said-mark, said-list, said-past, put-no-entries}
-use Rattle.event_lines.specs.EventLines.{withOne, withTwo, withThree}
+use Rattle.event_lines.specs.Reading.{withOne, withTwo, withThree}
 use Rattle.event_lines.proofs.line_of.Statement.{statement}
 use Rattle.event_lines.proofs.line_of.Tie as tie
 

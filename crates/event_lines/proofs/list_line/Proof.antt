@@ -5,7 +5,7 @@ use native.Mathlib.Omega.{arith}
 use Rattle.split.specs.Split.{tab}
 use Rattle.fields.specs.Fields.{fieldsLeft}
 use Rattle.event_lines.specs.ReadLaws.{put-no-entries}
-use Rattle.event_lines.specs.EventLines.{listLine, entriesBy}
+use Rattle.event_lines.specs.Reading.{listLine, entriesBy}
 use Rattle.event_lines.proofs.list_line.Statement.{statement}
 use Rattle.event_lines.proofs.list_line.Tie as tie
 

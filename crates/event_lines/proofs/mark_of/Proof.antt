@@ -1,7 +1,7 @@
 -- `event_lines::mark_of`: each way of the code is a case of the definition. Assumes nothing.
 use borrow.Author.Tests.{ne-eqb}
 use borrow.Author.Needs.{needs}
-use Rattle.event_lines.specs.EventLines.{markOf}
+use Rattle.event_lines.specs.Reading.{markOf}
 use Rattle.event_lines.proofs.mark_of.Tie as tie
 use Rattle.event_lines.proofs.mark_of.Statement.{statement}
 

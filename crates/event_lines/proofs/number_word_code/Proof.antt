@@ -1,6 +1,13 @@
--- `event_lines::number_word_code`: each way of the code is a case of the definition. Assumes nothing.
+-- `event_lines::number_word_code`: one test after the other, as the number is defined. Assumes nothing.
+use Prim.Native.Nat.{ℕ}
+use mathlib.Core.Path.{_≡_}
+use mathlib.Core.List.{List}
+use lib.ListN.{drop}
 use borrow.Author.Needs.{needs}
 use Rattle.words.specs.Words.{codeAmong}
+use Rattle.event_lines.specs.Words.{lineWords}
+use Rattle.event_lines.specs.Reading.{numberWords}
+use Rattle.event_lines.specs.WordsLaws.{code-here, code-on}
 use Rattle.event_lines.proofs.number_word_code.Statement.{statement}
 use Rattle.event_lines.proofs.number_word_code.Tie as tie
 
@@ -11,8 +18,8 @@ is-requires : tie.Need-is-requires
 is-requires c κs = search needs
 
 returns : tie.Need-returns
-unfolding codeAmong
-returns c = simp (← c .before .is .ensures, c .if1 .taken)
+unfolding lineWords
+returns c = search (code-here, code-on) depth 10
 
 slice-aggregate-is-2 : tie.Need-slice-aggregate-is-2
 slice-aggregate-is-2 c = search needs
@@ -21,8 +28,8 @@ is-requires-2 : tie.Need-is-requires-2
 is-requires-2 c κs = search needs
 
 returns-2 : tie.Need-returns-2
-unfolding codeAmong
-returns-2 c = simp (← c .before .before .before .before .is .ensures, c .before .before .before .if1 .left, ← c .before .is2 .ensures, c .if2 .taken)
+unfolding lineWords
+returns-2 c = search (code-here, code-on) depth 10
 
 slice-aggregate-is-3 : tie.Need-slice-aggregate-is-3
 slice-aggregate-is-3 c = search needs
@@ -31,8 +38,8 @@ is-requires-3 : tie.Need-is-requires-3
 is-requires-3 c κs = search needs
 
 returns-3 : tie.Need-returns-3
-unfolding codeAmong
-returns-3 c = simp (← c .before .before .before .before .before .before .before .is .ensures, c .before .before .before .before .before .before .if1 .left, ← c .before .before .before .before .is2 .ensures, c .before .before .before .if2 .left, ← c .before .is3 .ensures, c .if3 .taken)
+unfolding lineWords
+returns-3 c = search (code-here, code-on) depth 10
 
 slice-aggregate-is-4 : tie.Need-slice-aggregate-is-4
 slice-aggregate-is-4 c = search needs
@@ -41,8 +48,8 @@ is-requires-4 : tie.Need-is-requires-4
 is-requires-4 c κs = search needs
 
 returns-4 : tie.Need-returns-4
-unfolding codeAmong
-returns-4 c = simp (← c .before .before .before .before .before .before .before .before .before .before .is .ensures, c .before .before .before .before .before .before .before .before .before .if1 .left, ← c .before .before .before .before .before .before .before .is2 .ensures, c .before .before .before .before .before .before .if2 .left, ← c .before .before .before .before .is3 .ensures, c .before .before .before .if3 .left, ← c .before .is4 .ensures, c .if4 .taken)
+unfolding lineWords
+returns-4 c = search (code-here, code-on) depth 10
 
 slice-aggregate-is-5 : tie.Need-slice-aggregate-is-5
 slice-aggregate-is-5 c = search needs
@@ -51,8 +58,8 @@ is-requires-5 : tie.Need-is-requires-5
 is-requires-5 c κs = search needs
 
 returns-5 : tie.Need-returns-5
-unfolding codeAmong
-returns-5 c = simp (← c .before .before .before .before .before .before .before .before .before .before .before .before .before .is .ensures, c .before .before .before .before .before .before .before .before .before .before .before .before .if1 .left, ← c .before .before .before .before .before .before .before .before .before .before .is2 .ensures, c .before .before .before .before .before .before .before .before .before .if2 .left, ← c .before .before .before .before .before .before .before .is3 .ensures, c .before .before .before .before .before .before .if3 .left, ← c .before .before .before .before .is4 .ensures, c .before .before .before .if4 .left, ← c .before .is5 .ensures, c .if5 .taken)
+unfolding lineWords
+returns-5 c = search (code-here, code-on) depth 10
 
 slice-aggregate-is-6 : tie.Need-slice-aggregate-is-6
 slice-aggregate-is-6 c = search needs
@@ -61,8 +68,8 @@ is-requires-6 : tie.Need-is-requires-6
 is-requires-6 c κs = search needs
 
 returns-6 : tie.Need-returns-6
-unfolding codeAmong
-returns-6 c = simp (← c .before .before .before .before .before .before .before .before .before .before .before .before .before .before .before .before .is .ensures, c .before .before .before .before .before .before .before .before .before .before .before .before .before .before .before .if1 .left, ← c .before .before .before .before .before .before .before .before .before .before .before .before .before .is2 .ensures, c .before .before .before .before .before .before .before .before .before .before .before .before .if2 .left, ← c .before .before .before .before .before .before .before .before .before .before .is3 .ensures, c .before .before .before .before .before .before .before .before .before .if3 .left, ← c .before .before .before .before .before .before .before .is4 .ensures, c .before .before .before .before .before .before .if4 .left, ← c .before .before .before .before .is5 .ensures, c .before .before .before .if5 .left, ← c .before .is6 .ensures, c .if6 .taken)
+unfolding lineWords
+returns-6 c = search (code-here, code-on) depth 10
 
 slice-aggregate-is-7 : tie.Need-slice-aggregate-is-7
 slice-aggregate-is-7 c = search needs
@@ -71,8 +78,8 @@ is-requires-7 : tie.Need-is-requires-7
 is-requires-7 c κs = search needs
 
 returns-7 : tie.Need-returns-7
-unfolding codeAmong
-returns-7 c = simp (← c .before .before .before .before .before .before .before .before .before .before .before .before .before .before .before .before .before .before .before .is .ensures, c .before .before .before .before .before .before .before .before .before .before .before .before .before .before .before .before .before .before .if1 .left, ← c .before .before .before .before .before .before .before .before .before .before .before .before .before .before .before .before .is2 .ensures, c .before .before .before .before .before .before .before .before .before .before .before .before .before .before .before .if2 .left, ← c .before .before .before .before .before .before .before .before .before .before .before .before .before .is3 .ensures, c .before .before .before .before .before .before .before .before .before .before .before .before .if3 .left, ← c .before .before .before .before .before .before .before .before .before .before .is4 .ensures, c .before .before .before .before .before .before .before .before .before .if4 .left, ← c .before .before .before .before .before .before .before .is5 .ensures, c .before .before .before .before .before .before .if5 .left, ← c .before .before .before .before .is6 .ensures, c .before .before .before .if6 .left, ← c .before .is7 .ensures, c .if7 .taken)
+unfolding lineWords
+returns-7 c = search (code-here, code-on) depth 10
 
 slice-aggregate-is-8 : tie.Need-slice-aggregate-is-8
 slice-aggregate-is-8 c = search needs
@@ -80,9 +87,20 @@ slice-aggregate-is-8 c = search needs
 is-requires-8 : tie.Need-is-requires-8
 is-requires-8 c κs = search needs
 
+abbrev field : tie.Else6 → List ℕ
+field c = c .before .before .before .before .before .before .before .before .before .before .before .before .before .before .before .before .before .before .before .args .word .now
+
+-- none of the words with one number
+past-6 : (c : tie.Else6) {n : ℕ} → n ≡ codeAmong 13 (drop 6 numberWords) (field c) → n ≡ codeAmong 7 numberWords (field c)
+unfolding lineWords
+past-6 c on = search code-on depth 7
+
 returns-8 : tie.Need-returns-8
-unfolding codeAmong
-returns-8 c = simp (← c .before .before .before .before .before .before .before .before .before .before .before .before .before .before .before .before .before .before .before .before .before .before .is .ensures, c .before .before .before .before .before .before .before .before .before .before .before .before .before .before .before .before .before .before .before .before .before .if1 .left, ← c .before .before .before .before .before .before .before .before .before .before .before .before .before .before .before .before .before .before .before .is2 .ensures, c .before .before .before .before .before .before .before .before .before .before .before .before .before .before .before .before .before .before .if2 .left, ← c .before .before .before .before .before .before .before .before .before .before .before .before .before .before .before .before .is3 .ensures, c .before .before .before .before .before .before .before .before .before .before .before .before .before .before .before .if3 .left, ← c .before .before .before .before .before .before .before .before .before .before .before .before .before .is4 .ensures, c .before .before .before .before .before .before .before .before .before .before .before .before .if4 .left, ← c .before .before .before .before .before .before .before .before .before .before .is5 .ensures, c .before .before .before .before .before .before .before .before .before .if5 .left, ← c .before .before .before .before .before .before .before .is6 .ensures, c .before .before .before .before .before .before .if6 .left, ← c .before .before .before .before .is7 .ensures, c .before .before .before .if7 .left, ← c .before .is8 .ensures, c .if8 .taken)
+unfolding lineWords
+returns-8 c =
+    past-6 (c .before .before .before .before .before .before)
+    (code-on _ _ _ _ (c .before .before .before .before .is7 .ensures) (c .before .before .before .if7 .left)
+    (code-here _ _ _ _ (c .before .is8 .ensures) (c .if8 .taken)))
 
 slice-aggregate-is-9 : tie.Need-slice-aggregate-is-9
 slice-aggregate-is-9 c = search needs
@@ -91,15 +109,24 @@ is-requires-9 : tie.Need-is-requires-9
 is-requires-9 c κs = search needs
 
 returns-9 : tie.Need-returns-9
-unfolding codeAmong
-returns-9 c = simp (← c .before .before .before .before .before .before .before .before .before .before .before .before .before .before .before .before .before .before .before .before .before .before .before .before .before .is .ensures, c .before .before .before .before .before .before .before .before .before .before .before .before .before .before .before .before .before .before .before .before .before .before .before .before .if1 .left, ← c .before .before .before .before .before .before .before .before .before .before .before .before .before .before .before .before .before .before .before .before .before .before .is2 .ensures, c .before .before .before .before .before .before .before .before .before .before .before .before .before .before .before .before .before .before .before .before .before .if2 .left, ← c .before .before .before .before .before .before .before .before .before .before .before .before .before .before .before .before .before .before .before .is3 .ensures, c .before .before .before .before .before .before .before .before .before .before .before .before .before .before .before .before .before .before .if3 .left, ← c .before .before .before .before .before .before .before .before .before .before .before .before .before .before .before .before .is4 .ensures, c .before .before .before .before .before .before .before .before .before .before .before .before .before .before .before .if4 .left, ← c .before .before .before .before .before .before .before .before .before .before .before .before .before .is5 .ensures, c .before .before .before .before .before .before .before .before .before .before .before .before .if5 .left, ← c .before .before .before .before .before .before .before .before .before .before .is6 .ensures, c .before .before .before .before .before .before .before .before .before .if6 .left, ← c .before .before .before .before .before .before .before .is7 .ensures, c .before .before .before .before .before .before .if7 .left, ← c .before .before .before .before .is8 .ensures, c .before .before .before .if8 .left, ← c .before .is9 .ensures, c .if9 .taken)
+unfolding lineWords
+returns-9 c =
+    past-6 (c .before .before .before .before .before .before .before .before .before)
+    (code-on _ _ _ _ (c .before .before .before .before .before .before .before .is7 .ensures) (c .before .before .before .before .before .before .if7 .left)
+    (code-on _ _ _ _ (c .before .before .before .before .is8 .ensures) (c .before .before .before .if8 .left)
+    (code-here _ _ _ _ (c .before .is9 .ensures) (c .if9 .taken))))
 
 other-word-code-requires : tie.Need-other-word-code-requires
 other-word-code-requires c κs = search needs
 
 returns-10 : tie.Need-returns-10
-unfolding codeAmong
-returns-10 c = simp (← c .before .before .before .before .before .before .before .before .before .before .before .before .before .before .before .before .before .before .before .before .before .before .before .before .before .before .is .ensures, c .before .before .before .before .before .before .before .before .before .before .before .before .before .before .before .before .before .before .before .before .before .before .before .before .before .if1 .left, ← c .before .before .before .before .before .before .before .before .before .before .before .before .before .before .before .before .before .before .before .before .before .before .before .is2 .ensures, c .before .before .before .before .before .before .before .before .before .before .before .before .before .before .before .before .before .before .before .before .before .before .if2 .left, ← c .before .before .before .before .before .before .before .before .before .before .before .before .before .before .before .before .before .before .before .before .is3 .ensures, c .before .before .before .before .before .before .before .before .before .before .before .before .before .before .before .before .before .before .before .if3 .left, ← c .before .before .before .before .before .before .before .before .before .before .before .before .before .before .before .before .before .is4 .ensures, c .before .before .before .before .before .before .before .before .before .before .before .before .before .before .before .before .if4 .left, ← c .before .before .before .before .before .before .before .before .before .before .before .before .before .before .is5 .ensures, c .before .before .before .before .before .before .before .before .before .before .before .before .before .if5 .left, ← c .before .before .before .before .before .before .before .before .before .before .before .is6 .ensures, c .before .before .before .before .before .before .before .before .before .before .if6 .left, ← c .before .before .before .before .before .before .before .before .is7 .ensures, c .before .before .before .before .before .before .before .if7 .left, ← c .before .before .before .before .before .is8 .ensures, c .before .before .before .before .if8 .left, ← c .before .before .is9 .ensures, c .before .if9 .left, c .other-word-code .ensures)
+unfolding lineWords
+returns-10 c =
+    past-6 (c .before .before .before .before .before .before .before .before .before .before)
+    (code-on _ _ _ _ (c .before .before .before .before .before .before .before .before .is7 .ensures) (c .before .before .before .before .before .before .before .if7 .left)
+    (code-on _ _ _ _ (c .before .before .before .before .before .is8 .ensures) (c .before .before .before .before .if8 .left)
+    (code-on _ _ _ _ (c .before .before .is9 .ensures) (c .before .if9 .left)
+    (c .other-word-code .ensures))))
 
 pub number-word-code-spec : {M : Type 1} → statement M
 number-word-code-spec =

@@ -1,6 +1,6 @@
 -- `event_lines::one_said`: each way of the code is a case of the definition. Assumes nothing.
 use borrow.Author.Tests.{ne-eqb}
-use Rattle.event_lines.specs.Codes.{saidAmong}
+use Rattle.event_lines.specs.Reading.{saidAmong}
 use Rattle.event_lines.proofs.one_said.Statement.{statement}
 use Rattle.event_lines.proofs.one_said.Tie as tie
 

@@ -1,6 +1,7 @@
--- `event_lines::other_word_code`: each way of the code is a case of the definition. Assumes nothing.
+-- `event_lines::other_word_code`: one test after the other, as the number is defined. Assumes nothing.
 use borrow.Author.Needs.{needs}
-use Rattle.words.specs.Words.{codeAmong}
+use Rattle.event_lines.specs.Words.{lineWords}
+use Rattle.event_lines.specs.WordsLaws.{code-here, code-on, code-none}
 use Rattle.event_lines.proofs.other_word_code.Statement.{statement}
 use Rattle.event_lines.proofs.other_word_code.Tie as tie
 
@@ -11,8 +12,8 @@ is-requires : tie.Need-is-requires
 is-requires c κs = search needs
 
 returns : tie.Need-returns
-unfolding codeAmong
-returns c = simp (← c .before .is .ensures, c .if1 .taken)
+unfolding lineWords
+returns c = search (code-here, code-on) depth 8
 
 slice-aggregate-is-2 : tie.Need-slice-aggregate-is-2
 slice-aggregate-is-2 c = search needs
@@ -21,8 +22,8 @@ is-requires-2 : tie.Need-is-requires-2
 is-requires-2 c κs = search needs
 
 returns-2 : tie.Need-returns-2
-unfolding codeAmong
-returns-2 c = simp (← c .before .before .before .before .is .ensures, c .before .before .before .if1 .left, ← c .before .is2 .ensures, c .if2 .taken)
+unfolding lineWords
+returns-2 c = search (code-here, code-on) depth 8
 
 slice-aggregate-is-3 : tie.Need-slice-aggregate-is-3
 slice-aggregate-is-3 c = search needs
@@ -31,8 +32,8 @@ is-requires-3 : tie.Need-is-requires-3
 is-requires-3 c κs = search needs
 
 returns-3 : tie.Need-returns-3
-unfolding codeAmong
-returns-3 c = simp (← c .before .before .before .before .before .before .before .is .ensures, c .before .before .before .before .before .before .if1 .left, ← c .before .before .before .before .is2 .ensures, c .before .before .before .if2 .left, ← c .before .is3 .ensures, c .if3 .taken)
+unfolding lineWords
+returns-3 c = search (code-here, code-on) depth 8
 
 slice-aggregate-is-4 : tie.Need-slice-aggregate-is-4
 slice-aggregate-is-4 c = search needs
@@ -41,8 +42,8 @@ is-requires-4 : tie.Need-is-requires-4
 is-requires-4 c κs = search needs
 
 returns-4 : tie.Need-returns-4
-unfolding codeAmong
-returns-4 c = simp (← c .before .before .before .before .before .before .before .before .before .before .is .ensures, c .before .before .before .before .before .before .before .before .before .if1 .left, ← c .before .before .before .before .before .before .before .is2 .ensures, c .before .before .before .before .before .before .if2 .left, ← c .before .before .before .before .is3 .ensures, c .before .before .before .if3 .left, ← c .before .is4 .ensures, c .if4 .taken)
+unfolding lineWords
+returns-4 c = search (code-here, code-on) depth 8
 
 slice-aggregate-is-5 : tie.Need-slice-aggregate-is-5
 slice-aggregate-is-5 c = search needs
@@ -51,8 +52,8 @@ is-requires-5 : tie.Need-is-requires-5
 is-requires-5 c κs = search needs
 
 returns-5 : tie.Need-returns-5
-unfolding codeAmong
-returns-5 c = simp (← c .before .before .before .before .before .before .before .before .before .before .before .before .before .is .ensures, c .before .before .before .before .before .before .before .before .before .before .before .before .if1 .left, ← c .before .before .before .before .before .before .before .before .before .before .is2 .ensures, c .before .before .before .before .before .before .before .before .before .if2 .left, ← c .before .before .before .before .before .before .before .is3 .ensures, c .before .before .before .before .before .before .if3 .left, ← c .before .before .before .before .is4 .ensures, c .before .before .before .if4 .left, ← c .before .is5 .ensures, c .if5 .taken)
+unfolding lineWords
+returns-5 c = search (code-here, code-on) depth 8
 
 slice-aggregate-is-6 : tie.Need-slice-aggregate-is-6
 slice-aggregate-is-6 c = search needs
@@ -61,8 +62,8 @@ is-requires-6 : tie.Need-is-requires-6
 is-requires-6 c κs = search needs
 
 returns-6 : tie.Need-returns-6
-unfolding codeAmong
-returns-6 c = simp (← c .before .before .before .before .before .before .before .before .before .before .before .before .before .before .before .before .is .ensures, c .before .before .before .before .before .before .before .before .before .before .before .before .before .before .before .if1 .left, ← c .before .before .before .before .before .before .before .before .before .before .before .before .before .is2 .ensures, c .before .before .before .before .before .before .before .before .before .before .before .before .if2 .left, ← c .before .before .before .before .before .before .before .before .before .before .is3 .ensures, c .before .before .before .before .before .before .before .before .before .if3 .left, ← c .before .before .before .before .before .before .before .is4 .ensures, c .before .before .before .before .before .before .if4 .left, ← c .before .before .before .before .is5 .ensures, c .before .before .before .if5 .left, ← c .before .is6 .ensures, c .if6 .taken)
+unfolding lineWords
+returns-6 c = search (code-here, code-on) depth 8
 
 slice-aggregate-is-7 : tie.Need-slice-aggregate-is-7
 slice-aggregate-is-7 c = search needs
@@ -71,12 +72,12 @@ is-requires-7 : tie.Need-is-requires-7
 is-requires-7 c κs = search needs
 
 returns-7 : tie.Need-returns-7
-unfolding codeAmong
-returns-7 c = simp (← c .before .before .before .before .before .before .before .before .before .before .before .before .before .before .before .before .before .before .before .is .ensures, c .before .before .before .before .before .before .before .before .before .before .before .before .before .before .before .before .before .before .if1 .left, ← c .before .before .before .before .before .before .before .before .before .before .before .before .before .before .before .before .is2 .ensures, c .before .before .before .before .before .before .before .before .before .before .before .before .before .before .before .if2 .left, ← c .before .before .before .before .before .before .before .before .before .before .before .before .before .is3 .ensures, c .before .before .before .before .before .before .before .before .before .before .before .before .if3 .left, ← c .before .before .before .before .before .before .before .before .before .before .is4 .ensures, c .before .before .before .before .before .before .before .before .before .if4 .left, ← c .before .before .before .before .before .before .before .is5 .ensures, c .before .before .before .before .before .before .if5 .left, ← c .before .before .before .before .is6 .ensures, c .before .before .before .if6 .left, ← c .before .is7 .ensures, c .if7 .taken)
+unfolding lineWords
+returns-7 c = search (code-here, code-on) depth 8
 
 returns-8 : tie.Need-returns-8
-unfolding codeAmong
-returns-8 c = simp (← c .before .before .before .before .before .before .before .before .before .before .before .before .before .before .before .before .before .before .before .is .ensures, c .before .before .before .before .before .before .before .before .before .before .before .before .before .before .before .before .before .before .if1 .left, ← c .before .before .before .before .before .before .before .before .before .before .before .before .before .before .before .before .is2 .ensures, c .before .before .before .before .before .before .before .before .before .before .before .before .before .before .before .if2 .left, ← c .before .before .before .before .before .before .before .before .before .before .before .before .before .is3 .ensures, c .before .before .before .before .before .before .before .before .before .before .before .before .if3 .left, ← c .before .before .before .before .before .before .before .before .before .before .is4 .ensures, c .before .before .before .before .before .before .before .before .before .if4 .left, ← c .before .before .before .before .before .before .before .is5 .ensures, c .before .before .before .before .before .before .if5 .left, ← c .before .before .before .before .is6 .ensures, c .before .before .before .if6 .left, ← c .before .is7 .ensures, c .if7 .left)
+unfolding lineWords
+returns-8 c = search (code-on, code-none) depth 8
 
 pub other-word-code-spec : {M : Type 1} → statement M
 other-word-code-spec =

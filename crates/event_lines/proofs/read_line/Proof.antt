@@ -1,7 +1,7 @@
 -- `event_lines::read_line`: the word and what is left behind it are the line's fields. Assumes nothing.
 use mathlib.Core.Path.{sym}
 use borrow.Author.Needs.{needs}
-use Rattle.event_lines.specs.ReadLaws.{line-step, line-list-step}
+use Rattle.event_lines.specs.RowLaws.{line-step, line-list-step}
 use Rattle.event_lines.specs.EventLines.{lineSays, lineList}
 use Rattle.event_lines.proofs.read_line.Statement.{statement}
 use Rattle.event_lines.proofs.read_line.Tie as tie

@@ -10,7 +10,7 @@ use Rattle.fields.specs.FieldsLaws.{left-none, left-some, left-shorter}
 use Rattle.printing.specs.Printing.{printed}
 use Rattle.event_fields.specs.EventFields.{entryOf}
 use Rattle.event_lines.specs.declared.Counted.the-variants.{Of as ofCount}
-use Rattle.event_lines.specs.EventLines.{allEntries, leading}
+use Rattle.event_lines.specs.LineForms.{allEntries, leading}
 use Rattle.event_lines.specs.ReadLaws.{all-none, all-not, all-more, leading-none, leading-not, leading-more, counted-all, counted-not, put-none, put-more}
 use Rattle.event_lines.proofs.read_list.Tie as tie
 use Rattle.event_lines.proofs.read_list.Statement.{statement}

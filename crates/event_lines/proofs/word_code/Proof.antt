@@ -1,7 +1,8 @@
--- `event_lines::word_code`: each way of the code is a case of the definition. Assumes nothing.
+-- `event_lines::word_code`: one test after the other, as the number is defined. Assumes nothing.
 use borrow.Author.Needs.{needs}
-use Rattle.words.specs.Words.{codeAmong}
-use Rattle.event_lines.specs.Codes.{wordCode}
+use Rattle.event_lines.specs.Words.{lineWords}
+use Rattle.event_lines.specs.Reading.{wordCode}
+use Rattle.event_lines.specs.WordsLaws.{code-here, code-on}
 use Rattle.event_lines.proofs.word_code.Statement.{statement}
 use Rattle.event_lines.proofs.word_code.Tie as tie
 
@@ -12,8 +13,8 @@ is-requires : tie.Need-is-requires
 is-requires c κs = search needs
 
 returns : tie.Need-returns
-unfolding wordCode codeAmong
-returns c = simp (← c .before .is .ensures, c .if1 .taken)
+unfolding wordCode lineWords
+returns c = search (code-here, code-on) depth 7
 
 slice-aggregate-is-2 : tie.Need-slice-aggregate-is-2
 slice-aggregate-is-2 c = search needs
@@ -22,8 +23,8 @@ is-requires-2 : tie.Need-is-requires-2
 is-requires-2 c κs = search needs
 
 returns-2 : tie.Need-returns-2
-unfolding wordCode codeAmong
-returns-2 c = simp (← c .before .before .before .before .is .ensures, c .before .before .before .if1 .left, ← c .before .is2 .ensures, c .if2 .taken)
+unfolding wordCode lineWords
+returns-2 c = search (code-here, code-on) depth 7
 
 slice-aggregate-is-3 : tie.Need-slice-aggregate-is-3
 slice-aggregate-is-3 c = search needs
@@ -32,8 +33,8 @@ is-requires-3 : tie.Need-is-requires-3
 is-requires-3 c κs = search needs
 
 returns-3 : tie.Need-returns-3
-unfolding wordCode codeAmong
-returns-3 c = simp (← c .before .before .before .before .before .before .before .is .ensures, c .before .before .before .before .before .before .if1 .left, ← c .before .before .before .before .is2 .ensures, c .before .before .before .if2 .left, ← c .before .is3 .ensures, c .if3 .taken)
+unfolding wordCode lineWords
+returns-3 c = search (code-here, code-on) depth 7
 
 slice-aggregate-is-4 : tie.Need-slice-aggregate-is-4
 slice-aggregate-is-4 c = search needs
@@ -42,8 +43,8 @@ is-requires-4 : tie.Need-is-requires-4
 is-requires-4 c κs = search needs
 
 returns-4 : tie.Need-returns-4
-unfolding wordCode codeAmong
-returns-4 c = simp (← c .before .before .before .before .before .before .before .before .before .before .is .ensures, c .before .before .before .before .before .before .before .before .before .if1 .left, ← c .before .before .before .before .before .before .before .is2 .ensures, c .before .before .before .before .before .before .if2 .left, ← c .before .before .before .before .is3 .ensures, c .before .before .before .if3 .left, ← c .before .is4 .ensures, c .if4 .taken)
+unfolding wordCode lineWords
+returns-4 c = search (code-here, code-on) depth 7
 
 slice-aggregate-is-5 : tie.Need-slice-aggregate-is-5
 slice-aggregate-is-5 c = search needs
@@ -52,8 +53,8 @@ is-requires-5 : tie.Need-is-requires-5
 is-requires-5 c κs = search needs
 
 returns-5 : tie.Need-returns-5
-unfolding wordCode codeAmong
-returns-5 c = simp (← c .before .before .before .before .before .before .before .before .before .before .before .before .before .is .ensures, c .before .before .before .before .before .before .before .before .before .before .before .before .if1 .left, ← c .before .before .before .before .before .before .before .before .before .before .is2 .ensures, c .before .before .before .before .before .before .before .before .before .if2 .left, ← c .before .before .before .before .before .before .before .is3 .ensures, c .before .before .before .before .before .before .if3 .left, ← c .before .before .before .before .is4 .ensures, c .before .before .before .if4 .left, ← c .before .is5 .ensures, c .if5 .taken)
+unfolding wordCode lineWords
+returns-5 c = search (code-here, code-on) depth 7
 
 slice-aggregate-is-6 : tie.Need-slice-aggregate-is-6
 slice-aggregate-is-6 c = search needs
@@ -62,15 +63,15 @@ is-requires-6 : tie.Need-is-requires-6
 is-requires-6 c κs = search needs
 
 returns-6 : tie.Need-returns-6
-unfolding wordCode codeAmong
-returns-6 c = simp (← c .before .before .before .before .before .before .before .before .before .before .before .before .before .before .before .before .is .ensures, c .before .before .before .before .before .before .before .before .before .before .before .before .before .before .before .if1 .left, ← c .before .before .before .before .before .before .before .before .before .before .before .before .before .is2 .ensures, c .before .before .before .before .before .before .before .before .before .before .before .before .if2 .left, ← c .before .before .before .before .before .before .before .before .before .before .is3 .ensures, c .before .before .before .before .before .before .before .before .before .if3 .left, ← c .before .before .before .before .before .before .before .is4 .ensures, c .before .before .before .before .before .before .if4 .left, ← c .before .before .before .before .is5 .ensures, c .before .before .before .if5 .left, ← c .before .is6 .ensures, c .if6 .taken)
+unfolding wordCode lineWords
+returns-6 c = search (code-here, code-on) depth 7
 
 number-word-code-requires : tie.Need-number-word-code-requires
 number-word-code-requires c κs = search needs
 
 returns-7 : tie.Need-returns-7
-unfolding wordCode codeAmong
-returns-7 c = simp (← c .before .before .before .before .before .before .before .before .before .before .before .before .before .before .before .before .before .is .ensures, c .before .before .before .before .before .before .before .before .before .before .before .before .before .before .before .before .if1 .left, ← c .before .before .before .before .before .before .before .before .before .before .before .before .before .before .is2 .ensures, c .before .before .before .before .before .before .before .before .before .before .before .before .before .if2 .left, ← c .before .before .before .before .before .before .before .before .before .before .before .is3 .ensures, c .before .before .before .before .before .before .before .before .before .before .if3 .left, ← c .before .before .before .before .before .before .before .before .is4 .ensures, c .before .before .before .before .before .before .before .if4 .left, ← c .before .before .before .before .before .is5 .ensures, c .before .before .before .before .if5 .left, ← c .before .before .is6 .ensures, c .before .if6 .left, c .number-word-code .ensures)
+unfolding wordCode lineWords
+returns-7 c = search code-on depth 7
 
 pub word-code-spec : {M : Type 1} → statement M
 word-code-spec =

@@ -1,62 +1,47 @@
 -- `restricting_sets::populate_restricting_sets`: the rows passed are made, in both tables. The measure is how many are left.
 -- Assumes nothing.
 use Prim.Native.Nat.{_-_, _≤_}
-use native.Mathlib.Numerals.{add-one}
+use mathlib.Core.Path.{_≡_, _∙_}
 use native.Mathlib.Omega.{arith}
 use borrow.Author.Needs.{needs}
 use Rattle.sizes.specs.Sizes.{variables}
 use Rattle.restricting_sets.specs.Restricting.{noUseOf, conflictAt}
-use Rattle.restricting_sets.specs.RowsLaws.{Anew, anew-start, anew-next, anew-end}
+use Rattle.restricting_sets.specs.AnewLaws.{firstAnew, anew-none, anew-next, anew-end}
 use Rattle.restricting_sets.proofs.populate_restricting_sets.Statement.{statement}
 use Rattle.restricting_sets.proofs.populate_restricting_sets.Tie as tie
 
 abbrev Inv-loop : tie.InvT-loop
-Inv-loop use-sets use-counts chunks no-use-sets₀ conflict-sets₀ v₀ no-use-sets conflict-sets v =
+Inv-loop no-use₀ conflict₀ use-sets use-counts chunks v₀ no-use conflict v =
     (v ≤ variables)
-    × Anew (noUseOf use-sets use-counts chunks) no-use-sets₀ v no-use-sets
-    × Anew (conflictAt use-sets use-counts chunks) conflict-sets₀ v conflict-sets
+    × (no-use ≡ firstAnew (noUseOf use-sets use-counts chunks) no-use₀ v)
+    × (conflict ≡ firstAnew (conflictAt use-sets use-counts chunks) conflict₀ v)
 
 abbrev μ-loop : tie.MeasureT-loop
-μ-loop use-sets use-counts chunks no-use-sets₀ conflict-sets₀ v₀ no-use-sets conflict-sets v = variables - v
+μ-loop no-use₀ conflict₀ use-sets use-counts chunks v₀ no-use conflict v = variables - v
 
 loop-holds : tie.Need-loop-holds Inv-loop μ-loop
-loop-holds c = (omega arith, anew-start _ _ (search needs), anew-start _ _ (search needs))
+loop-holds c = (omega arith, anew-none _ _, anew-none _ _)
 
 cast-loop : tie.Need-cast-loop Inv-loop μ-loop
 cast-loop c = search needs
 
-cast-row : tie.Need-cast-row Inv-loop μ-loop
-cast-row c = search needs
-
-mul-no-use-of : tie.Need-mul-no-use-of Inv-loop μ-loop
-mul-no-use-of c = search needs
-
-slice-read-no-use-of : tie.Need-slice-read-no-use-of Inv-loop μ-loop
-slice-read-no-use-of c = search needs
+load-requires : tie.Need-load-requires Inv-loop μ-loop
+load-requires c κs = search needs
 
 no-use-of-requires : tie.Need-no-use-of-requires Inv-loop μ-loop
 no-use-of-requires c κs = search needs
 
-mul-no-use-sets : tie.Need-mul-no-use-sets Inv-loop μ-loop
-mul-no-use-sets c = search needs
+store-requires : tie.Need-store-requires Inv-loop μ-loop
+store-requires c κs = search needs
 
-slice-write-no-use-sets : tie.Need-slice-write-no-use-sets Inv-loop μ-loop
-slice-write-no-use-sets c = search needs
-
-mul-conflict-of : tie.Need-mul-conflict-of Inv-loop μ-loop
-mul-conflict-of c = search needs
-
-slice-read-conflict-of : tie.Need-slice-read-conflict-of Inv-loop μ-loop
-slice-read-conflict-of c = search needs
+load-requires-2 : tie.Need-load-requires-2 Inv-loop μ-loop
+load-requires-2 c κs = search needs
 
 conflict-of-requires : tie.Need-conflict-of-requires Inv-loop μ-loop
 conflict-of-requires c κs = search needs
 
-mul-conflict-sets : tie.Need-mul-conflict-sets Inv-loop μ-loop
-mul-conflict-sets c = search needs
-
-slice-write-conflict-sets : tie.Need-slice-write-conflict-sets Inv-loop μ-loop
-slice-write-conflict-sets c = search needs
+store-requires-2 : tie.Need-store-requires-2 Inv-loop μ-loop
+store-requires-2 c κs = search needs
 
 add-v : tie.Need-add-v Inv-loop μ-loop
 add-v c = search needs
@@ -66,14 +51,20 @@ loop-less c = search needs
 
 loop-again : tie.Need-loop-again Inv-loop μ-loop
 loop-again c =
-    let l = c .before .before .before .before .before .loop in
-    let inside = c .before .before .before .before .loop-test .taken in
-    (omega arith, rw (add-one (l .v), c .before .before .no-use-of .ensures) (anew-next _ _ (l .v) (l .no-use-sets) inside (l .inv .1)), rw (add-one (l .v), c .conflict-of .ensures) (anew-next _ _ (l .v) (l .conflict-sets) inside (l .inv .2)))
+    let stored = c .before .before .before .before .before in
+    let loaded = stored .before .before .before in
+    let inside = loaded .before .before .loop-test .taken in
+    let l = loaded .before .before .before .loop in (
+      omega arith,
+      anew-next _ _ (l .v) inside (l .inv .1) (loaded .load .ensures) (stored .before .before .no-use-of .ensures) (stored .store .ensures),
+      anew-next _ _ (l .v) inside (l .inv .2) (c .before .before .before .load2 .ensures) (c .before .before .conflict-of .ensures) (c .store2 .ensures),
+    )
 
 returns : tie.Need-returns Inv-loop μ-loop
 returns c =
     let l = c .before .loop in
-    record { noUses = anew-end _ _ (l .v) _ (omega arith) (l .inv .1); conflicts = anew-end _ _ (l .v) _ (omega arith) (l .inv .2) }
+    let all : l .v ≡ variables = omega arith in
+    record { noUses = l .inv .1 ∙ anew-end _ _ (l .v) all; conflicts = l .inv .2 ∙ anew-end _ _ (l .v) all }
 
 pub populate-restricting-sets-spec : {M : Type 1} → statement M
 populate-restricting-sets-spec =
@@ -83,17 +74,12 @@ populate-restricting-sets-spec =
     μ-loop
     loop-holds
     cast-loop
-    cast-row
-    mul-no-use-of
-    slice-read-no-use-of
+    load-requires
     no-use-of-requires
-    mul-no-use-sets
-    slice-write-no-use-sets
-    mul-conflict-of
-    slice-read-conflict-of
+    store-requires
+    load-requires-2
     conflict-of-requires
-    mul-conflict-sets
-    slice-write-conflict-sets
+    store-requires-2
     add-v
     loop-less
     loop-again

@@ -1,7 +1,7 @@
 -- `valid_states::variable_fits`: the code is the definition. Assumes nothing.
 use mathlib.Core.Path.{ap, _∙_}
 use borrow.Author.Needs.{needs}
-use Rattle.valid_states.specs.ValidStates.{rowFits}
+use Rattle.valid_states.specs.ValidStates.{isRegisterSet, rowFits}
 use Rattle.valid_states.specs.ValidStatesLaws.{joined}
 use Rattle.valid_states.proofs.variable_fits.Statement.{statement}
 use Rattle.valid_states.proofs.variable_fits.Tie as tie
@@ -15,20 +15,14 @@ row-fits-requires c κs = search needs
 uses-fit-requires : tie.Need-uses-fit-requires
 uses-fit-requires c κs = search needs
 
-mul-is-register-set : tie.Need-mul-is-register-set
-mul-is-register-set c = search needs
-
-element-copy-out-is-register-set : tie.Need-element-copy-out-is-register-set
-element-copy-out-is-register-set c = search needs
+load-requires : tie.Need-load-requires
+load-requires c κs = search needs
 
 is-register-set-requires : tie.Need-is-register-set-requires
 is-register-set-requires c κs = search needs
 
-mul-is-register-set-2 : tie.Need-mul-is-register-set-2
-mul-is-register-set-2 c = search needs
-
-element-copy-out-is-register-set-2 : tie.Need-element-copy-out-is-register-set-2
-element-copy-out-is-register-set-2 c = search needs
+load-requires-2 : tie.Need-load-requires-2
+load-requires-2 c κs = search needs
 
 is-register-set-requires-2 : tie.Need-is-register-set-requires-2
 is-register-set-requires-2 c κs = search needs
@@ -45,8 +39,8 @@ both-requires-3 c κs = search needs
 returns : tie.Need-returns
 returns c =
     let row = c .before .before .before .before .before .before .before .before .row-fits .ensures ∙ ap (rowFits _) (c .before .before .before .before .before .before .before .before .before .row-at .ensures) in
-    let noUse = c .before .before .before .before .before .is-register-set .ensures in
-    let conflict = c .before .before .before .is-register-set2 .ensures in
+    let noUse = c .before .before .before .before .before .is-register-set .ensures ∙ ap isRegisterSet (c .before .before .before .before .before .before .load .ensures) in
+    let conflict = c .before .before .before .is-register-set2 .ensures ∙ ap isRegisterSet (c .before .before .before .before .load2 .ensures) in
     joined (c .both3 .ensures) row
     (joined (c .before .both2 .ensures) (c .before .before .before .before .before .before .before .uses-fit .ensures)
     (joined (c .before .before .both .ensures) noUse conflict))
@@ -58,11 +52,9 @@ variable-fits-spec =
     row-at-requires
     row-fits-requires
     uses-fit-requires
-    mul-is-register-set
-    element-copy-out-is-register-set
+    load-requires
     is-register-set-requires
-    mul-is-register-set-2
-    element-copy-out-is-register-set-2
+    load-requires-2
     is-register-set-requires-2
     both-requires
     both-requires-2

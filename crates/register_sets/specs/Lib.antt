@@ -1,0 +1,2 @@
+pub mod RegisterSets
+pub mod RegisterSetsLaws
