@@ -12,6 +12,30 @@ pub const SHEET_BYTES: usize = 65_536;
 /// No event prints more, nor does the end of a clause.
 pub const EVENT_ROOM: usize = 256;
 
+/// Variables of a clause, numbered from 0.
+pub const VARIABLES: usize = 64;
+
+/// In the place of a variable's number: no variable.
+pub const NO_VARIABLE: u32 = VARIABLES as u32;
+
+/// Uses of one variable.
+pub const USES: usize = 16;
+
+/// Registers and slots are 1 to this.
+pub const LAST_REGISTER: u32 = 63;
+
+/// A table with a place for each register starts with a place for 0.
+pub const REGISTERS: usize = LAST_REGISTER as usize + 1;
+
+/// Entries of the list of freed registers.
+pub const FREED_REGISTERS: usize = 64;
+
+/// Entries of the queue of freed slots.
+pub const FREED_SLOTS: usize = 128;
+
+/// Branches open at a time.
+pub const OPEN_BRANCHES: usize = 16;
+
 /// The refusal numbers: rules 4.1 to 4.9 of docs/RULES.md.
 #[derive(Clone, Copy, Debug, PartialEq, Eq)]
 pub enum Refusal {
@@ -27,7 +51,7 @@ pub enum Refusal {
 }
 
 impl Refusal {
-    pub const ALL: [Refusal; 9] = [
+    pub const ALL: [Refusal; Refusal::NoRoom as usize] = [
         Refusal::UnknownForm,
         Refusal::ForbiddenOrder,
         Refusal::OutsideSize,
@@ -39,7 +63,7 @@ impl Refusal {
         Refusal::NoRoom,
     ];
 
-    /// The refusal of a number from 1 to 9.
+    /// The refusal of a number, from 1 on.
     pub fn of_number(number: usize) -> Option<Refusal> {
         Refusal::ALL.get(number.checked_sub(1)?).copied()
     }
@@ -54,8 +78,8 @@ impl fmt::Display for Refusal {
             Refusal::ForbiddenOrder => "order: the line may not stand where it does",
             Refusal::OutsideSize => "size: a number is too large or too small, or no record has the number of the variable",
             Refusal::RustStops => "the original would stop here",
-            Refusal::NoRegister => "no register up to 63 can be chosen",
-            Refusal::NoSlot => "no slot up to 63 is left",
+            Refusal::NoRegister => return write!(f, "no register up to {LAST_REGISTER} can be chosen"),
+            Refusal::NoSlot => return write!(f, "no slot up to {LAST_REGISTER} is left"),
             Refusal::Full => "full: the sheet, a list, a table or a count is at its limit",
             Refusal::UnreachableMark => "a mark came where the original holds that none can",
             Refusal::NoRoom => "room: the answer is longer than the room for it",
@@ -154,19 +178,21 @@ pub struct Counters {
 #[repr(C)]
 pub struct State {
     pub counters: Counters,
-    pub records: [Record; 64],
-    pub use_sets: [[u32; 16]; 64],
-    pub use_counts: [u32; 64],
-    pub no_use: [u64; 64],
-    pub conflict: [u64; 64],
-    pub mappings: [u32; 64],
-    pub freed_registers: [u32; 64],
-    pub freed_slots: [FreedSlot; 128],
-    pub branch_rows: [BranchRow; 16],
-    pub branch_sets: [BranchSets; 16],
+    pub records: [Record; VARIABLES],
+    pub use_sets: [[u32; USES]; VARIABLES],
+    pub use_counts: [u32; VARIABLES],
+    pub no_use: [u64; VARIABLES],
+    pub conflict: [u64; VARIABLES],
+    pub mappings: [u32; REGISTERS],
+    pub freed_registers: [u32; FREED_REGISTERS],
+    pub freed_slots: [FreedSlot; FREED_SLOTS],
+    pub branch_rows: [BranchRow; OPEN_BRANCHES],
+    pub branch_sets: [BranchSets; OPEN_BRANCHES],
 }
 
-const _: () = assert!(size_of::<State>() == 11_704);
+/// The library's own layout has so many bytes.
+const STATE_BYTES: usize = 11_704;
+const _: () = assert!(size_of::<State>() == STATE_BYTES);
 
 mod library {
     use super::State;
@@ -203,16 +229,19 @@ mod library {
     }
 }
 
-/// An answer of the library, a count of bytes or −(16·line + refusal).
+/// A refusal is told as the negative of its line, so many times, and its number.
+const LINE_WEIGHT: usize = 16;
+
+/// An answer of the library, a count of bytes or a refusal.
 fn answered(answer: i64) -> Result<usize, Refused> {
     match usize::try_from(answer) {
         Ok(written) => Ok(written),
         Err(_) => {
             let told = answer.unsigned_abs() as usize;
             let refusal =
-                Refusal::of_number(told % 16).expect("a refusal has a number from 1 to 9");
+                Refusal::of_number(told % LINE_WEIGHT).expect("a refusal has one of these numbers");
             Err(Refused {
-                line: told / 16,
+                line: told / LINE_WEIGHT,
                 refusal,
             })
         }

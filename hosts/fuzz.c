@@ -26,6 +26,7 @@ extern int LLVMFuzzerTestOneInput(const uint8_t *input, size_t bytes);
 enum { HEAD_BYTES = 2, SPOIL_BYTES = 8, NUMBERS = sizeof(FenomiraskState) / sizeof(uint32_t) };
 enum { OPENING = sizeof "clause\n" - 1 };
 enum { ONE_FILL = 0x35, OTHER_FILL = 0xca, INVALID = -FENOMIRASK_OUTSIDE_SIZE };
+enum { LINE_WEIGHT = 16 }; /* the header's: a refusal is -(16 * line + number) */
 
 /* A call, and what it was answered. */
 typedef struct Call {
@@ -67,7 +68,7 @@ static Call answered(Call call, int watched, size_t room, uint8_t fill)
                                                : BUILD(watched, end)(state, out, room);
     HOLD(number <= (int64_t)room && memcmp(sheet, call.sheet, call.bytes) == 0);
     if (FENOMIRASK_REFUSED(number)) {
-        HOLD(FENOMIRASK_REFUSAL(number) >= 1 && FENOMIRASK_REFUSAL(number) <= 9);
+        HOLD(FENOMIRASK_REFUSAL(number) >= FENOMIRASK_UNKNOWN_FORM && FENOMIRASK_REFUSAL(number) <= FENOMIRASK_NO_ROOM);
         HOLD(FENOMIRASK_LINE(number) <= call.lines && same_state(state, &call.state));
     }
     size_t from = FENOMIRASK_REFUSED(number) ? 0 : (size_t)number;
@@ -126,9 +127,9 @@ static void hold_lines(const Call *whole, size_t room)
             memcpy((uint32_t *)&call.state + (call.sheet[1] + 256 * call.sheet[2]) % NUMBERS, call.sheet + 3, sizeof(uint32_t));
         call = held(call, room % (FENOMIRASK_EVENT_ROOM + 1));
         valid = spoils ? call.number != INVALID : valid;
-        HOLD(valid ? call.number >= 0 || call.number <= -16 : call.number == INVALID);
+        HOLD(valid ? call.number >= 0 || FENOMIRASK_LINE(call.number) > 0 : call.number == INVALID);
         if (refused == 0 && FENOMIRASK_REFUSED(call.number))
-            refused = -16 * line - (spoils ? FENOMIRASK_UNKNOWN_FORM : FENOMIRASK_REFUSAL(call.number));
+            refused = -LINE_WEIGHT * line - (spoils ? FENOMIRASK_UNKNOWN_FORM : FENOMIRASK_REFUSAL(call.number));
         HOLD(refused != 0 || whole->number < 0 || memcmp(whole->out + written, call.out, (size_t)call.number) == 0);
         written += call.number;
         free(call.out);
@@ -206,9 +207,11 @@ static unsigned long last_register(const Call *whole)
  * another register is copied over it. A step that is full already refuses the copy. */
 static void hold_spoilt(const Call *whole)
 {
-    enum { CALL = sizeof "call\n" - 1, COPY = sizeof "get_variable\tx63\t63\n" };
+    enum { CALL = sizeof "call\n" - 1 };
+    char copy[64];
     unsigned long lost = last_register(whole), other = lost % (FENOMIRASK_REGISTERS - 1) + 1;
-    uint8_t *sheet = malloc(whole->bytes + whole->lines * COPY);
+    size_t copy_bytes = (size_t)snprintf(copy, sizeof copy, "get_variable\tx%lu\t%lu\n", lost, other);
+    uint8_t *sheet = malloc(whole->bytes + whole->lines * copy_bytes);
     Call copied = {.function = CHECK, .sheet = sheet};
     int calls = 0;
     for (size_t at = 0, bytes; at < whole->bytes; at += bytes) {
@@ -218,8 +221,10 @@ static void hold_spoilt(const Call *whole)
         copied.bytes += bytes;
         int behind_call = calls;
         calls = bytes == CALL && memcmp(line, "call\n", CALL) == 0;
-        if (behind_call && !calls)
-            copied.bytes += (size_t)sprintf((char *)sheet + copied.bytes, "get_variable\tx%lu\t%lu\n", lost, other);
+        if (behind_call && !calls) {
+            memcpy(sheet + copied.bytes, copy, copy_bytes);
+            copied.bytes += copy_bytes;
+        }
     }
     size_t room = most_room(&copied);
     copied = answered(copied, 0, room, ONE_FILL);
@@ -242,7 +247,9 @@ int LLVMFuzzerTestOneInput(const uint8_t *input, size_t bytes)
     if (!FENOMIRASK_REFUSED(call.number) && call.function == EVENTS)
         HOLD(memcmp(call.out + last, "end\t", 4) == 0);
     if (!FENOMIRASK_REFUSED(call.number) && call.function == CHECK) {
-        HOLD(call.number == 9 && (memcmp(call.out, "accepted\n", 9) == 0 || memcmp(call.out, "rejected\n", 9) == 0));
+        HOLD(call.number == FENOMIRASK_CHECK_ROOM);
+        HOLD(memcmp(call.out, "accepted\n", FENOMIRASK_CHECK_ROOM) == 0 ||
+             memcmp(call.out, "rejected\n", FENOMIRASK_CHECK_ROOM) == 0);
         hold_spoilt(&call);
     }
     if (FUNCTION == LINE && call.bytes <= FENOMIRASK_SHEET_BYTES)

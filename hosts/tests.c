@@ -21,12 +21,35 @@
 
 enum {
     GUARD = 64,
-    ROOM = 65536,         /* the room for which a stream's answers hold */
-    LARGE_ROOM = 1 << 20, /* room for every answer */
+    ROOM = FENOMIRASK_SHEET_BYTES, /* the room for which a stream's answers hold */
+    LARGE_ROOM = 1 << 20,          /* room for every answer */
     SHOWN = 20,
-    SPOILT_EACH = 8, /* numbers that are spoilt in the state of each sheet of a stream */
-    THREADS = 4      /* for each way to the answers */
+    SPOILT_EACH = 8,    /* numbers that are spoilt in the state of each sheet of a stream */
+    SPOILT_STEP = 1009, /* how many further the next one is: a prime, so that each number has its turn */
+    LEAST_SPOILT = 64,  /* changes of one number that a state has to refuse, and others that it has to take */
+    THREADS = 4         /* for each way to the answers */
 };
+
+/* Sizes of docs/RULES.md, section 3, for which the header has no constant; behind each its rule. */
+enum {
+    LAST_REGISTER = FENOMIRASK_REGISTERS - 1, /* 3.4 and 3.5; the same for slots, arguments and cells */
+    LAST_CHUNK = 255,                         /* 3.6 */
+    LAST_COUNT = 65535,                       /* 3.7 */
+    LAST_COUNTER = LAST_REGISTER + 1,         /* 3.11 */
+    STEPS = 256                               /* 3.15 */
+};
+
+/* How the header codes two numbers as one: a refusal as -(LINE_WEIGHT * line + number), a use as USE_WEIGHT * context +
+ * register. A context is 0 in the head, or a chunk behind one of the other two. */
+enum { LINE_WEIGHT = 16, USE_WEIGHT = 256, MIDDLE = 256, LAST_GOAL = 512, LAST_CONTEXT = LAST_GOAL + LAST_CHUNK };
+
+#define USE(context, number) (USE_WEIGHT * (context) + (number))
+
+/* A text and its bytes, without the zero behind it. */
+#define TEXT(text) (text), sizeof(text) - 1
+
+/* What an event sheet, or a clause, without lines prints. */
+#define NO_LINES_END "end\t1\t0\n"
 
 typedef int64_t sheet_function(const uint8_t *sheet, size_t sheet_bytes, uint8_t *out, size_t out_bytes);
 
@@ -119,6 +142,12 @@ static int is_left(const uint8_t *first, size_t all, const uint8_t *part, const 
 
 /* ---- Calls */
 
+/* The answer with which a line is refused. */
+static int64_t refused_at(size_t line, int refusal)
+{
+    return -(int64_t)(LINE_WEIGHT * line + (size_t)refusal);
+}
+
 /* The answer must be `wanted`; if it is a count, `text` must be written. */
 static void expect(const char *what, const struct function *f, const void *sheet, size_t sheet_bytes, size_t room,
                    int64_t wanted, const void *text)
@@ -157,7 +186,7 @@ static void expect_text(const char *what, const struct function *f, const void *
 static void expect_refusal(const char *what, const struct function *f, const void *sheet, size_t sheet_bytes,
                            size_t line, int refusal)
 {
-    int64_t wanted = -(int64_t)(16 * line + (size_t)refusal);
+    int64_t wanted = refused_at(line, refusal);
     expect(what, f, sheet, sheet_bytes, ROOM, wanted, "");
     expect(what, f, sheet, sheet_bytes, 1, wanted, "");
     expect(what, f, sheet, sheet_bytes, 0, wanted, "");
@@ -186,6 +215,17 @@ static size_t repeat(uint8_t *at, const char *line, size_t times)
     return times * bytes;
 }
 
+/* Good lines of exactly so many bytes that print nothing; how many lines they are. */
+static size_t put_silent(uint8_t *at, size_t bytes)
+{
+    static const char line[] = "reset\n", longer[] = "tail\t0\n"; /* longer by one byte */
+    size_t longer_lines = bytes % strlen(line), used = repeat(at, longer, longer_lines);
+    size_t lines = (bytes - used) / strlen(line);
+    used += repeat(at + used, line, lines);
+    count(used == bytes, "lines that print nothing", "bytes", 0, (int64_t)used, (int64_t)bytes);
+    return lines + longer_lines;
+}
+
 /* Where the line behind this one starts, or the bytes end. */
 static size_t next_line(const uint8_t *sheet, size_t sheet_bytes, size_t at)
 {
@@ -199,12 +239,13 @@ static const char first_ends[] = "at\tx1\nget_variable\ty1\t2\nat\ty1\nend\t3\t1
 
 static void whole_sheets(void)
 {
-    static const char *const empty[] = {[EVENTS] = "end\t1\t0\n", [CHECK] = "accepted\n"};
+    static const char *const empty[] = {[EVENTS] = NO_LINES_END, [CHECK] = "accepted\n"};
     static const char tenth[] = "h\t1\t0\nh\t2\t0\nget_value\tx1\t2\n";
     static const char uncalled[] = "g\t1\t0\nput_variable\tx5\t1\n";
     static uint8_t sheet[2 * FENOMIRASK_SHEET_BYTES];
     const struct function *events = &functions[EVENTS], *check = &functions[CHECK];
-    size_t bytes;
+    const size_t full = FENOMIRASK_SHEET_BYTES;
+    size_t bytes, lines;
     int i;
 
     for (i = EVENTS; i <= CHECK; i++) {
@@ -212,35 +253,32 @@ static void whole_sheets(void)
         expect_text("an empty sheet", f, "", 0, ROOM, empty[i], strlen(empty[i]));
         memset(sheet, '\n', sizeof sheet);
         expect_refusal("one LF", f, sheet, 1, 1, FENOMIRASK_UNKNOWN_FORM);
-        expect_refusal("65,536 LFs", f, sheet, 65536, 1, FENOMIRASK_UNKNOWN_FORM);
-        expect_refusal("65,537 LFs", f, sheet, 65537, 0, FENOMIRASK_FULL);
-        expect_refusal("131,072 LFs", f, sheet, 131072, 0, FENOMIRASK_FULL);
+        expect_refusal("a full sheet of LFs", f, sheet, full, 1, FENOMIRASK_UNKNOWN_FORM);
+        expect_refusal("an LF too many", f, sheet, full + 1, 0, FENOMIRASK_FULL);
+        expect_refusal("twice as many LFs", f, sheet, 2 * full, 0, FENOMIRASK_FULL);
         memset(sheet, 0xFF, sizeof sheet);
-        expect_refusal("65,536 bytes and no LF", f, sheet, 65536, 1, FENOMIRASK_UNKNOWN_FORM);
-        expect_refusal("65,537 bytes and no LF", f, sheet, 65537, 0, FENOMIRASK_FULL);
+        expect_refusal("a full sheet and no LF", f, sheet, full, 1, FENOMIRASK_UNKNOWN_FORM);
+        expect_refusal("a byte too many and no LF", f, sheet, full + 1, 0, FENOMIRASK_FULL);
     }
 
     expect_text("sheet 1", events, first, strlen(first), ROOM, first_ends, strlen(first_ends));
     expect_refusal("sheet 1 without its last LF", events, first, strlen(first) - 1, 5, FENOMIRASK_UNKNOWN_FORM);
-    bytes = repeat(sheet, "tail\t0\n", 4);
-    bytes += repeat(sheet + bytes, "reset\n", 10918);
-    count(bytes == 65536, "a sheet's length", "events", 0, (int64_t)bytes, 65536);
-    expect_text("65,536 bytes of good lines", events, sheet, bytes, ROOM, empty[0], strlen(empty[0]));
-    expect_refusal("65,535 bytes, the last LF missing", events, sheet, bytes - 1, 10922, FENOMIRASK_UNKNOWN_FORM);
-    bytes = repeat(sheet, "tail\t0\n", 5);
-    bytes += repeat(sheet + bytes, "reset\n", 10917);
-    count(bytes == 65537, "a sheet's length", "events", 0, (int64_t)bytes, 65537);
-    expect_refusal("65,537 bytes of good lines", events, sheet, bytes, 0, FENOMIRASK_FULL);
+    lines = put_silent(sheet, full);
+    expect_text("a full sheet of good lines", events, sheet, full, ROOM, TEXT(NO_LINES_END));
+    expect_refusal("its last LF missing", events, sheet, full - 1, lines, FENOMIRASK_UNKNOWN_FORM);
+    put_silent(sheet, full + 1);
+    expect_refusal("good lines, a byte too many", events, sheet, full + 1, 0, FENOMIRASK_FULL);
 
     expect_text("sheet 10", check, tenth, strlen(tenth), ROOM, "accepted\n", FENOMIRASK_CHECK_ROOM);
-    expect_text("sheet 10, nothing", check, tenth, 12, ROOM, "rejected\n", FENOMIRASK_CHECK_ROOM);
+    bytes = (size_t)(strstr(tenth, "get_value") - tenth);
+    expect_text("sheet 10, nothing", check, tenth, bytes, ROOM, "rejected\n", FENOMIRASK_CHECK_ROOM);
     expect_refusal("sheet 10 without its last LF", check, tenth, strlen(tenth) - 1, 3, FENOMIRASK_UNKNOWN_FORM);
     expect_refusal("a goal step with no call", check, uncalled, strlen(uncalled), 2, FENOMIRASK_FORBIDDEN_ORDER);
-    bytes = repeat(sheet, "call\n", 256);
-    expect_text("256 calls", check, sheet, bytes, ROOM, "accepted\n", FENOMIRASK_CHECK_ROOM);
-    bytes = repeat(sheet, "call\n", 13107);
-    expect_refusal("65,536 bytes, too many steps", check, sheet, bytes + 1, 257, FENOMIRASK_FULL);
-    expect_refusal("65,537 bytes, too many steps", check, sheet, bytes + 2, 0, FENOMIRASK_FULL);
+    bytes = repeat(sheet, "call\n", STEPS);
+    expect_text("as many calls as there may be", check, sheet, bytes, ROOM, "accepted\n", FENOMIRASK_CHECK_ROOM);
+    repeat(sheet, "call\n", sizeof sheet / strlen("call\n"));
+    expect_refusal("a full sheet, too many steps", check, sheet, full, STEPS + 1, FENOMIRASK_FULL);
+    expect_refusal("a byte too many, too many steps", check, sheet, full + 1, 0, FENOMIRASK_FULL);
 }
 
 /* ---- What a call leaves */
@@ -268,25 +306,25 @@ static const struct verdict {
     {"a register written behind the call", "call\ng\t1\t0\nput_variable\tx5\t1\ng\t2\t0\nput_value\tx5\t2\ncall\n", 1},
 };
 
-/* A head step, as many calls as then fit on a sheet, and a goal with its call. */
-static void expect_behind_calls(const char *what, const char *head, const char *goal, int accepted)
+/* A head step, as many calls as then fit on a sheet, and a goal with its call; each step with its instruction, if any. */
+static void expect_behind_calls(const char *what, const char *get, const char *put, int accepted)
 {
-    char sheet[2048];
-    size_t bytes = (size_t)sprintf(sheet, "%s", head);
-    bytes += repeat((uint8_t *)sheet + bytes, "call\n", 253);
-    sprintf(sheet + bytes, "%scall\n", goal);
+    char sheet[STEPS * sizeof "call\n" + 128];
+    size_t bytes = (size_t)sprintf(sheet, "h\t1\t0\n%s", get);
+    bytes += repeat((uint8_t *)sheet + bytes, "call\n", STEPS - 3);
+    sprintf(sheet + bytes, "g\t1\t0\n%scall\n", put);
     expect_verdict(what, sheet, accepted);
 }
 
 /* Every register is lost at a call, which reads its arguments before, and every slot is kept. */
 static void spoilt_registers(void)
 {
-    char what[64], sheet[128];
+    char what[64], sheet[128], get[64], put[64];
     size_t i;
     int k;
     for (i = 0; i < sizeof verdicts / sizeof verdicts[0]; i++)
         expect_verdict(verdicts[i].what, verdicts[i].sheet, verdicts[i].accepted);
-    for (k = 1; k < FENOMIRASK_REGISTERS; k++) {
+    for (k = 1; k <= LAST_REGISTER; k++) {
         snprintf(what, sizeof what, "register %d at a call", k);
         snprintf(sheet, sizeof sheet, "h\t%d\t0\ng\t%d\t0\ncall\n", k, k);
         expect_verdict(what, sheet, 1);
@@ -297,8 +335,10 @@ static void spoilt_registers(void)
         snprintf(sheet, sizeof sheet, "h\t1\t0\nget_variable\ty%d\t1\ncall\ng\t1\t0\nput_value\ty%d\t1\ncall\n", k, k);
         expect_verdict(what, sheet, 1);
     }
-    expect_behind_calls("a register behind 253 calls", "h\t1\t0\n", "g\t1\t0\n", 0);
-    expect_behind_calls("a slot behind 253 calls", "h\t1\t0\nget_variable\ty63\t1\n", "g\t1\t0\nput_value\ty63\t1\n", 1);
+    expect_behind_calls("a register behind many calls", "", "", 0);
+    sprintf(get, "get_variable\ty%d\t1\n", LAST_REGISTER);
+    sprintf(put, "put_value\ty%d\t1\n", LAST_REGISTER);
+    expect_behind_calls("a slot behind many calls", get, put, 1);
 }
 
 /* ---- One line at a time */
@@ -391,7 +431,7 @@ static void expect_refused(const char *what, FenomiraskState *state, const void 
 static void expect_line_refusal(const char *what, FenomiraskState *state, const void *line, size_t line_bytes,
                                 int refusal)
 {
-    expect_refused(what, state, line, line_bytes, -(16 + refusal));
+    expect_refused(what, state, line, line_bytes, refused_at(1, refusal));
 }
 
 static void expect_number(const char *what, uint64_t got, uint64_t wanted)
@@ -472,9 +512,9 @@ static void fields(void)
     EXPECT(records[2].to_perm_var_num, FENOMIRASK_NO_VARIABLE);
     EXPECT(records[2].num_occurrences, 2);
     EXPECT(use_counts[2], 3);
-    EXPECT(use_sets[2][0], 256 * (512 + 1) + 2);
-    EXPECT(use_sets[2][1], 256 * (256 + 3) + 4);
-    EXPECT(use_sets[2][2], 5);
+    EXPECT(use_sets[2][0], USE(LAST_GOAL + 1, 2));
+    EXPECT(use_sets[2][1], USE(MIDDLE + 3, 4));
+    EXPECT(use_sets[2][2], USE(0, 5));
     expect_line(&s, "temp\tl9\t9\t-\n", "");
     EXPECT(records[3].context, 2);
     EXPECT(records[3].chunk, 9);
@@ -561,32 +601,35 @@ static void fields(void)
 /* Lines that are refused, each with the state as it was; the same state takes a good line then. */
 static void single_lines(void)
 {
+    char line[64], text[64];
     FenomiraskState s, bad;
     fenomirask_fresh(&s);
-    expect_line_refusal("no byte", &s, "", 0, FENOMIRASK_UNKNOWN_FORM);
-    expect_line_refusal("an LF", &s, "\n", 1, FENOMIRASK_UNKNOWN_FORM);
-    expect_line_refusal("no LF", &s, "perm\t1", 6, FENOMIRASK_UNKNOWN_FORM);
-    expect_line_refusal("two LFs", &s, "perm\t1\n\n", 8, FENOMIRASK_UNKNOWN_FORM);
-    expect_line_refusal("two lines", &s, "perm\t1\nperm\t2\n", 14, FENOMIRASK_UNKNOWN_FORM);
-    expect_line_refusal("a byte behind the LF", &s, "perm\t1\np", 8, FENOMIRASK_UNKNOWN_FORM);
-    expect_line_refusal("a zero behind the LF", &s, "perm\t1\n", 8, FENOMIRASK_UNKNOWN_FORM);
-    expect_line_refusal("no variable", &s, "safe\t0\n", 7, FENOMIRASK_OUTSIDE_SIZE);
-    expect_line_refusal("no open branch", &s, "take\n", 5, FENOMIRASK_RUST_STOPS);
-    expect_line(&s, NULL, "end\t1\t0\n");
+    expect_line_refusal("no byte", &s, TEXT(""), FENOMIRASK_UNKNOWN_FORM);
+    expect_line_refusal("an LF", &s, TEXT("\n"), FENOMIRASK_UNKNOWN_FORM);
+    expect_line_refusal("no LF", &s, TEXT("perm\t1"), FENOMIRASK_UNKNOWN_FORM);
+    expect_line_refusal("two LFs", &s, TEXT("perm\t1\n\n"), FENOMIRASK_UNKNOWN_FORM);
+    expect_line_refusal("two lines", &s, TEXT("perm\t1\nperm\t2\n"), FENOMIRASK_UNKNOWN_FORM);
+    expect_line_refusal("a byte behind the LF", &s, TEXT("perm\t1\np"), FENOMIRASK_UNKNOWN_FORM);
+    expect_line_refusal("a zero behind the LF", &s, TEXT("perm\t1\n\0"), FENOMIRASK_UNKNOWN_FORM);
+    expect_line_refusal("no variable", &s, TEXT("safe\t0\n"), FENOMIRASK_OUTSIDE_SIZE);
+    expect_line_refusal("no open branch", &s, TEXT("take\n"), FENOMIRASK_RUST_STOPS);
+    expect_line(&s, NULL, NO_LINES_END);
     expect_line(&s, "perm\t1\n", "");
     expect_line(&s, "reset\n", "");
-    expect_line_refusal("a record after an event", &s, "perm\t1\n", 7, FENOMIRASK_FORBIDDEN_ORDER);
-    expect_line_refusal("a record after an event", &s, "temp\th\t1\t-\n", 11, FENOMIRASK_FORBIDDEN_ORDER);
-    expect_line(&s, "args\t63\n", "");
+    expect_line_refusal("a record after an event", &s, TEXT("perm\t1\n"), FENOMIRASK_FORBIDDEN_ORDER);
+    expect_line_refusal("a record after an event", &s, TEXT("temp\th\t1\t-\n"), FENOMIRASK_FORBIDDEN_ORDER);
+    sprintf(line, "args\t%d\n", LAST_REGISTER);
+    expect_line(&s, line, "");
     expect_line(&s, "var\tf\ts\th\t0\n", "get_variable\ty1\t1\nat\ty1\n");
-    expect_line(&s, NULL, "end\t64\t1\n");
+    sprintf(text, "end\t%d\t1\n", LAST_COUNTER);
+    expect_line(&s, NULL, text);
     memset(&bad, 0xAA, sizeof bad);
     expect_call("no state, no line, no room", &bad, "", 0, 0, -FENOMIRASK_OUTSIDE_SIZE, "");
-    expect_call("no state", &bad, "reset\n", 6, FENOMIRASK_EVENT_ROOM, -FENOMIRASK_OUTSIDE_SIZE, "");
+    expect_call("no state", &bad, TEXT("reset\n"), FENOMIRASK_EVENT_ROOM, -FENOMIRASK_OUTSIDE_SIZE, "");
     expect_call("no state", &bad, NULL, 0, FENOMIRASK_EVENT_ROOM, -FENOMIRASK_OUTSIDE_SIZE, "");
     expect_call("no state, no room", &bad, NULL, 0, 0, -FENOMIRASK_OUTSIDE_SIZE, "");
     fenomirask_fresh(&bad);
-    expect_line(&bad, NULL, "end\t1\t0\n");
+    expect_line(&bad, NULL, NO_LINES_END);
 }
 
 /* A line of so many bytes, its LF counted: the start, and more behind it as often as there is place. */
@@ -603,31 +646,32 @@ static void put_long_line(uint8_t *line, size_t bytes, const char *start, const 
 static void long_lines(void)
 {
     static uint8_t line[2 * FENOMIRASK_SHEET_BYTES];
+    const size_t full = FENOMIRASK_SHEET_BYTES;
     FenomiraskState s, bad;
     fenomirask_fresh(&s);
     memset(&bad, 0xAA, sizeof bad);
     memset(line, '\n', sizeof line);
-    expect_line_refusal("65,536 LFs", &s, line, 65536, FENOMIRASK_UNKNOWN_FORM);
-    expect_refused("65,537 LFs", &s, line, 65537, -FENOMIRASK_FULL);
-    expect_refused("131,072 LFs", &s, line, 131072, -FENOMIRASK_FULL);
+    expect_line_refusal("as many LFs as a sheet may have", &s, line, full, FENOMIRASK_UNKNOWN_FORM);
+    expect_refused("an LF too many", &s, line, full + 1, -FENOMIRASK_FULL);
+    expect_refused("twice as many LFs", &s, line, 2 * full, -FENOMIRASK_FULL);
     memset(line, 'a', sizeof line);
-    expect_line_refusal("65,536 bytes and no LF", &s, line, 65536, FENOMIRASK_UNKNOWN_FORM);
-    expect_refused("65,537 bytes and no LF", &s, line, 65537, -FENOMIRASK_FULL);
-    expect_refused("131,072 bytes and no LF", &s, line, 131072, -FENOMIRASK_FULL);
-    put_long_line(line, 65536, "a", "a");
-    expect_line_refusal("65,536 bytes, an unknown word", &s, line, 65536, FENOMIRASK_UNKNOWN_FORM);
-    expect_refused("no state, 65,536 bytes", &bad, line, 65536, -FENOMIRASK_OUTSIDE_SIZE);
-    put_long_line(line, 65537, "a", "a");
-    expect_refused("65,537 bytes, an unknown word", &s, line, 65537, -FENOMIRASK_FULL);
-    expect_refused("no state, 65,537 bytes", &bad, line, 65537, -FENOMIRASK_OUTSIDE_SIZE);
-    put_long_line(line, 65535, "head", "\t-");
-    expect_line_refusal("65,535 bytes, too many arguments", &s, line, 65535, FENOMIRASK_FULL);
-    put_long_line(line, 65537, "head", "\t-");
-    expect_refused("65,537 bytes, too many arguments", &s, line, 65537, -FENOMIRASK_FULL);
-    put_long_line(line, 65536, "temp\tm100\t1\th:1", ",h:1");
-    expect_line_refusal("65,536 bytes, too many uses", &s, line, 65536, FENOMIRASK_FULL);
-    put_long_line(line, 65537, "temp\th\t1\th:1", ",h:1");
-    expect_refused("65,537 bytes, too many uses", &s, line, 65537, -FENOMIRASK_FULL);
+    expect_line_refusal("as many bytes and no LF", &s, line, full, FENOMIRASK_UNKNOWN_FORM);
+    expect_refused("a byte too many and no LF", &s, line, full + 1, -FENOMIRASK_FULL);
+    expect_refused("twice as many bytes and no LF", &s, line, 2 * full, -FENOMIRASK_FULL);
+    put_long_line(line, full, "a", "a");
+    expect_line_refusal("an unknown word", &s, line, full, FENOMIRASK_UNKNOWN_FORM);
+    expect_refused("no state, an unknown word", &bad, line, full, -FENOMIRASK_OUTSIDE_SIZE);
+    put_long_line(line, full + 1, "a", "a");
+    expect_refused("a byte too many, an unknown word", &s, line, full + 1, -FENOMIRASK_FULL);
+    expect_refused("no state, a byte too many", &bad, line, full + 1, -FENOMIRASK_OUTSIDE_SIZE);
+    put_long_line(line, full - 1, "head", "\t-");
+    expect_line_refusal("a byte less, too many arguments", &s, line, full - 1, FENOMIRASK_FULL);
+    put_long_line(line, full + 1, "head", "\t-");
+    expect_refused("a byte too many, too many arguments", &s, line, full + 1, -FENOMIRASK_FULL);
+    put_long_line(line, full, "temp\tm100\t1\th:1", ",h:1");
+    expect_line_refusal("too many uses", &s, line, full, FENOMIRASK_FULL);
+    put_long_line(line, full + 1, "temp\th\t1\th:1", ",h:1");
+    expect_refused("a byte too many, too many uses", &s, line, full + 1, -FENOMIRASK_FULL);
     expect_line(&s, "perm\t1\n", "");
 }
 
@@ -645,8 +689,8 @@ static int has(uint64_t set, unsigned n)
 
 static int is_use(uint32_t use)
 {
-    uint32_t context = use / 256;
-    return is_within(use % 256, 1, 63) && (context == 0 || is_within(context, 256, 512 + 255));
+    uint32_t context = use / USE_WEIGHT;
+    return is_within(use % USE_WEIGHT, 1, LAST_REGISTER) && (context == 0 || is_within(context, MIDDLE, LAST_CONTEXT));
 }
 
 /* Whether the members of a set are variables, and if wanted permanent ones. */
@@ -664,16 +708,19 @@ static int is_valid(const FenomiraskState *s)
 {
     const FenomiraskCounters *c = &s->counters;
     unsigned i, j;
-    if (!is_within(c->arg_c, 1, 64) || !is_within(c->temp_lb, 1, 64) || !is_within(c->perm_lb, 1, 64) || c->arity > 63
-        || c->in_tail_position > 1 || c->records > 64 || c->events_seen > 1 || c->freed_registers > 64
-        || c->first_freed_slot > 127 || c->freed_slots > 128 || c->open_branches > 16 || has(c->in_use, 0))
+    if (!is_within(c->arg_c, 1, LAST_COUNTER) || !is_within(c->temp_lb, 1, LAST_COUNTER)
+        || !is_within(c->perm_lb, 1, LAST_COUNTER) || c->arity > LAST_REGISTER || c->in_tail_position > 1
+        || c->records > FENOMIRASK_VARIABLES || c->events_seen > 1 || c->freed_registers > FENOMIRASK_FREED_REGISTERS
+        || c->first_freed_slot >= FENOMIRASK_FREED_SLOTS || c->freed_slots > FENOMIRASK_FREED_SLOTS
+        || c->open_branches > FENOMIRASK_OPEN_BRANCHES || has(c->in_use, 0))
         return 0;
     for (i = 0; i < c->records; i++) {
         const FenomiraskRecord *r = &s->records[i];
-        if (r->kind > 1 || r->context > 2 || r->chunk > 255 || r->place > 63 || r->pending > 1 || r->safety.code > 2
-            || r->deep.code > 2 || (r->to_perm_var_num != FENOMIRASK_NO_VARIABLE && r->to_perm_var_num >= c->records)
-            || r->num_occurrences > 65535 || r->running_count > 65535 || s->use_counts[i] > 16 || has(s->no_use[i], 0)
-            || has(s->conflict[i], 0))
+        if (r->kind > 1 || r->context > 2 || r->chunk > LAST_CHUNK || r->place > LAST_REGISTER || r->pending > 1
+            || r->safety.code > 2 || r->deep.code > 2
+            || (r->to_perm_var_num != FENOMIRASK_NO_VARIABLE && r->to_perm_var_num >= c->records)
+            || r->num_occurrences > LAST_COUNT || r->running_count > LAST_COUNT || s->use_counts[i] > FENOMIRASK_USES
+            || has(s->no_use[i], 0) || has(s->conflict[i], 0))
             return 0;
         for (j = 0; j < s->use_counts[i]; j++)
             if (!is_use(s->use_sets[i][j]))
@@ -685,16 +732,16 @@ static int is_valid(const FenomiraskState *s)
             return 0;
     }
     for (i = 0; i < c->freed_registers; i++)
-        if (!is_within(s->freed_registers[i], 1, 63))
+        if (!is_within(s->freed_registers[i], 1, LAST_REGISTER))
             return 0;
     for (i = 0; i < c->freed_slots; i++) {
         const FenomiraskFreedSlot *freed = &s->freed_slots[(c->first_freed_slot + i) % FENOMIRASK_FREED_SLOTS];
-        if (freed->chunk > 255 || freed->variable >= c->records)
+        if (freed->chunk > LAST_CHUNK || freed->variable >= c->records)
             return 0;
     }
     for (i = 0; i < c->open_branches; i++) {
         const FenomiraskBranchSets *sets = &s->branch_sets[i];
-        if (s->branch_rows[i].num_branches > 65535 || s->branch_rows[i].current_branch_idx > 65535
+        if (s->branch_rows[i].num_branches > LAST_COUNT || s->branch_rows[i].current_branch_idx > LAST_COUNT
             || !are_variables(s, sets->shallow_safety, 0) || !are_variables(s, sets->deep_safety, 0)
             || !are_variables(s, sets->subsumed_hits, 1))
             return 0;
@@ -702,11 +749,14 @@ static int is_valid(const FenomiraskState *s)
     return 1;
 }
 
+/* The lines that a state is tried with in turn, NULL being the end. */
+static const char *const tried[] = {"reset\n", "sets\n", "x\n", "take\n", "next\n", NULL};
+enum { TRIED = sizeof tried / sizeof tried[0] };
+
 /* Calls with a state that is valid or not; a valid one may refuse the line, but not for the state. */
 static void expect_validity(const char *what, const FenomiraskState *state, int valid, unsigned turn)
 {
-    static const char *const lines[] = {"reset\n", "sets\n", "x\n", "take\n", "next\n"};
-    const char *line = turn % 6 == 5 ? NULL : lines[turn % 6];
+    const char *line = tried[turn % TRIED];
     FenomiraskState s = *state;
     uint8_t text[FENOMIRASK_EVENT_ROOM];
     int kept;
@@ -716,9 +766,38 @@ static void expect_validity(const char *what, const FenomiraskState *state, int 
           got, valid ? 0 : -FENOMIRASK_OUTSIDE_SIZE);
 }
 
-static const uint32_t numbers[] = {0,   1,   2,   3,     16,    17,     63,     64,     65,         127,       128,
-                                   129, 255, 256, 65535, 65536, 196607, 196608, 196671, 0x7FFFFFFF, 0xFFFFFFFF};
+/* Numbers at the sizes and past them. */
+static const uint32_t numbers[] = {
+    0,
+    1,
+    2,
+    3,
+    FENOMIRASK_OPEN_BRANCHES,
+    FENOMIRASK_OPEN_BRANCHES + 1,
+    LAST_REGISTER,
+    LAST_COUNTER,
+    LAST_COUNTER + 1,
+    FENOMIRASK_FREED_SLOTS - 1,
+    FENOMIRASK_FREED_SLOTS,
+    FENOMIRASK_FREED_SLOTS + 1,
+    LAST_CHUNK,
+    LAST_CHUNK + 1,
+    LAST_COUNT,
+    LAST_COUNT + 1,
+    USE(LAST_CONTEXT, USE_WEIGHT - 1),
+    USE(LAST_CONTEXT + 1, 0),
+    USE(LAST_CONTEXT + 1, LAST_REGISTER),
+    INT32_MAX,
+    UINT32_MAX,
+};
 enum { NUMBERS = sizeof numbers / sizeof numbers[0] };
+
+/* The bytes of a number, those that are no part of a state, and the numbers that a set may have. */
+enum {
+    NUMBER_BYTES = sizeof(uint32_t),
+    GAP = offsetof(FenomiraskCounters, open_branches) + NUMBER_BYTES,
+    SET_NUMBERS = 64
+};
 
 /* Whether the number at an offset is the half of a set. */
 static int is_set(size_t at)
@@ -733,12 +812,12 @@ static size_t spoilt(FenomiraskState *s, const FenomiraskState *good, size_t at,
 {
     *s = *good;
     if (is_set(at)) {
-        uint64_t set = i == 0 ? ~(uint64_t)1 : (uint64_t)1 << (i - 1) % 64;
+        uint64_t set = i == 0 ? ~(uint64_t)1 : (uint64_t)1 << (i - 1) % SET_NUMBERS;
         memcpy((uint8_t *)s + at, &set, sizeof set);
         return sizeof set;
     }
-    memcpy((uint8_t *)s + at, &numbers[i % NUMBERS], sizeof numbers[0]);
-    return sizeof numbers[0];
+    memcpy((uint8_t *)s + at, &numbers[i % NUMBERS], NUMBER_BYTES);
+    return NUMBER_BYTES;
 }
 
 /* Every number of a state, changed to each of some values, alone. */
@@ -748,10 +827,10 @@ static void spoil_all(const char *what, const FenomiraskState *good)
     unsigned turn = 0;
     count(is_valid(good), what, "a state that is reached", 0, 0, 0);
     while (at < sizeof *good) {
-        size_t bytes = 4;
+        size_t bytes = NUMBER_BYTES;
         unsigned i;
-        if (at == offsetof(FenomiraskCounters, open_branches) + 4) {
-            at += 4;
+        if (at == GAP) {
+            at += NUMBER_BYTES;
             continue;
         }
         for (i = 0; i < NUMBERS; i++) {
@@ -761,79 +840,81 @@ static void spoil_all(const char *what, const FenomiraskState *good)
             valid = is_valid(&s);
             *(valid ? &taken : &refused) += 1;
             /* a value that does not matter is tried once in four times */
-            if (!valid || (at / 4 + turn) % 4 == 0 || i == NUMBERS - 1)
+            if (!valid || (at / NUMBER_BYTES + turn) % 4 == 0 || i == NUMBERS - 1)
                 expect_validity(what, &s, valid, turn);
             turn++;
         }
         at += bytes;
     }
-    count(refused > 64 && taken > 64, what, "states that are none", 0, (int64_t)refused, (int64_t)taken);
+    count(refused > LEAST_SPOILT && taken > LEAST_SPOILT, what, "states that are none", 0, (int64_t)refused, (int64_t)taken);
 }
 
 /* The last number that is inside its size and the first that is not, of each field that has a size. */
 static void spoil_bounds(void)
 {
 #define AT(field) offsetof(FenomiraskState, field), #field
+    /* Of the state that is spoilt: its variables, the first ones permanent, its freed registers, and the uses of variable 2. */
+    enum { RECORDS = 6, PERMANENT = 2, FREED = 2, USES = 3 };
     static const struct {
         size_t at;
         const char *field;
         uint32_t inside, outside;
     } bounds[] = {
         {AT(counters.arg_c), 1, 0},
-        {AT(counters.arg_c), 64, 65},
+        {AT(counters.arg_c), LAST_COUNTER, LAST_COUNTER + 1},
         {AT(counters.temp_lb), 1, 0},
-        {AT(counters.temp_lb), 64, 65},
+        {AT(counters.temp_lb), LAST_COUNTER, LAST_COUNTER + 1},
         {AT(counters.perm_lb), 1, 0},
-        {AT(counters.perm_lb), 64, 65},
-        {AT(counters.arity), 63, 64},
+        {AT(counters.perm_lb), LAST_COUNTER, LAST_COUNTER + 1},
+        {AT(counters.arity), LAST_REGISTER, LAST_REGISTER + 1},
         {AT(counters.in_tail_position), 1, 2},
-        {AT(counters.records), 6, 65},
-        {AT(counters.records), 64, 1},
+        {AT(counters.records), RECORDS, FENOMIRASK_VARIABLES + 1},
+        {AT(counters.records), FENOMIRASK_VARIABLES, 1},
         {AT(counters.events_seen), 1, 2},
-        {AT(counters.freed_registers), 2, 3},
-        {AT(counters.first_freed_slot), 127, 128},
-        {AT(counters.freed_slots), 128, 129},
-        {AT(counters.open_branches), 16, 17},
-        {AT(counters.in_use), 2, 1},
+        {AT(counters.freed_registers), FREED, FREED + 1},
+        {AT(counters.first_freed_slot), FENOMIRASK_FREED_SLOTS - 1, FENOMIRASK_FREED_SLOTS},
+        {AT(counters.freed_slots), FENOMIRASK_FREED_SLOTS, FENOMIRASK_FREED_SLOTS + 1},
+        {AT(counters.open_branches), FENOMIRASK_OPEN_BRANCHES, FENOMIRASK_OPEN_BRANCHES + 1},
+        {AT(counters.in_use), 1 << 1, 1 << 0},
         {AT(records[0].kind), 1, 2},
         {AT(records[2].kind), 0, 1},
         {AT(records[2].context), 2, 3},
-        {AT(records[2].chunk), 255, 256},
-        {AT(records[0].place), 63, 64},
+        {AT(records[2].chunk), LAST_CHUNK, LAST_CHUNK + 1},
+        {AT(records[0].place), LAST_REGISTER, LAST_REGISTER + 1},
         {AT(records[0].pending), 1, 2},
         {AT(records[0].safety.code), 2, 3},
         {AT(records[0].deep.code), 2, 3},
-        {AT(records[2].to_perm_var_num), 5, 6},
-        {AT(records[2].to_perm_var_num), 64, 63},
-        {AT(records[0].num_occurrences), 65535, 65536},
-        {AT(records[0].running_count), 65535, 65536},
-        {AT(use_sets[2][0]), 1, 0},
-        {AT(use_sets[2][0]), 63, 64},
-        {AT(use_sets[2][0]), 65537, 65281},
-        {AT(use_sets[2][0]), 196415, 196609},
-        {AT(use_counts[2]), 3, 4},
-        {AT(use_counts[2]), 0, 17},
-        {AT(no_use[2]), 2, 1},
-        {AT(conflict[2]), 2, 1},
-        {AT(mappings[0]), 5, 6},
-        {AT(mappings[1]), 64, 65},
-        {AT(mappings[63]), 2, 1},
+        {AT(records[2].to_perm_var_num), RECORDS - 1, RECORDS},
+        {AT(records[2].to_perm_var_num), FENOMIRASK_NO_VARIABLE, FENOMIRASK_NO_VARIABLE - 1},
+        {AT(records[0].num_occurrences), LAST_COUNT, LAST_COUNT + 1},
+        {AT(records[0].running_count), LAST_COUNT, LAST_COUNT + 1},
+        {AT(use_sets[2][0]), USE(0, 1), USE(0, 0)},
+        {AT(use_sets[2][0]), USE(0, LAST_REGISTER), USE(0, LAST_REGISTER + 1)},
+        {AT(use_sets[2][0]), USE(MIDDLE, 1), USE(MIDDLE - 1, 1)},
+        {AT(use_sets[2][0]), USE(LAST_CONTEXT, LAST_REGISTER), USE(LAST_CONTEXT + 1, 1)},
+        {AT(use_counts[2]), USES, USES + 1},
+        {AT(use_counts[2]), 0, FENOMIRASK_USES + 1},
+        {AT(no_use[2]), 1 << 1, 1 << 0},
+        {AT(conflict[2]), 1 << 1, 1 << 0},
+        {AT(mappings[0]), RECORDS - 1, RECORDS},
+        {AT(mappings[1]), FENOMIRASK_NO_VARIABLE, FENOMIRASK_NO_VARIABLE + 1},
+        {AT(mappings[LAST_REGISTER]), PERMANENT, PERMANENT - 1},
         {AT(freed_registers[1]), 1, 0},
-        {AT(freed_registers[1]), 63, 64},
-        {AT(branch_rows[0].num_branches), 65535, 65536},
-        {AT(branch_rows[0].current_branch_idx), 65535, 65536},
-        {AT(branch_sets[0].shallow_safety), 63, 64},
-        {AT(branch_sets[0].deep_safety), 63, 64},
-        {AT(branch_sets[0].subsumed_hits), 3, 4},
+        {AT(freed_registers[1]), LAST_REGISTER, LAST_REGISTER + 1},
+        {AT(branch_rows[0].num_branches), LAST_COUNT, LAST_COUNT + 1},
+        {AT(branch_rows[0].current_branch_idx), LAST_COUNT, LAST_COUNT + 1},
+        {AT(branch_sets[0].shallow_safety), (1 << RECORDS) - 1, 1 << RECORDS},
+        {AT(branch_sets[0].deep_safety), (1 << RECORDS) - 1, 1 << RECORDS},
+        {AT(branch_sets[0].subsumed_hits), (1 << PERMANENT) - 1, 1 << PERMANENT},
     };
     FenomiraskState good = reach(reached[1]), s;
     unsigned i, turn;
     for (i = 0; i < sizeof bounds / sizeof bounds[0]; i++)
-        for (turn = 0; turn < 6; turn++) {
+        for (turn = 0; turn < TRIED; turn++) {
             s = good;
-            memcpy((uint8_t *)&s + bounds[i].at, &bounds[i].inside, sizeof bounds[i].inside);
+            memcpy((uint8_t *)&s + bounds[i].at, &bounds[i].inside, NUMBER_BYTES);
             expect_validity(bounds[i].field, &s, 1, turn);
-            memcpy((uint8_t *)&s + bounds[i].at, &bounds[i].outside, sizeof bounds[i].outside);
+            memcpy((uint8_t *)&s + bounds[i].at, &bounds[i].outside, NUMBER_BYTES);
             expect_validity(bounds[i].field, &s, 0, turn);
         }
 }
@@ -872,7 +953,7 @@ static int64_t by_lines(const uint8_t *sheet, size_t sheet_bytes, uint8_t *out, 
             line++;
         }
         if (FENOMIRASK_REFUSED(got))
-            return FENOMIRASK_LINE(got) == 1 ? got - 16 * (int64_t)(line - 1) : got;
+            return FENOMIRASK_LINE(got) == 1 ? refused_at(line, FENOMIRASK_REFUSAL(got)) : got;
         if (written + (size_t)got <= room)
             memcpy(out + written, text, (size_t)got);
         written += (size_t)got;
@@ -917,7 +998,7 @@ static void expect_by_lines(const char *what, const struct function *f, const ui
         at += bytes;
     }
     if (got < 0) {
-        got -= 16 * (int64_t)(line - 1);
+        got = refused_at(FENOMIRASK_LINE(got) + line - 1, FENOMIRASK_REFUSAL(got));
         count(got == wanted, what, "line by line", line, got, wanted);
         got = call(&state, NULL, 0, FENOMIRASK_EVENT_ROOM, AT_END, text, &kept);
         count(kept && got > 0, what, "the end after a refusal", 0, got, 0);
@@ -929,9 +1010,8 @@ static void expect_by_lines(const char *what, const struct function *f, const ui
               line, (int64_t)written, wanted);
     }
     for (i = 0; i < SPOILT_EACH; i++) {
-        /* a prime number of numbers further each time: all have their turn */
-        spoilt_at = (spoilt_at + 4 * 1009) % sizeof state;
-        if (spoilt_at == offsetof(FenomiraskCounters, open_branches) + 4 || (is_set(spoilt_at) && spoilt_at % 8 != 0))
+        spoilt_at = (spoilt_at + NUMBER_BYTES * SPOILT_STEP) % sizeof state;
+        if (spoilt_at == GAP || (is_set(spoilt_at) && spoilt_at % sizeof(uint64_t) != 0))
             continue;
         spoilt(&s, &state, spoilt_at, turn);
         expect_validity(what, &s, is_valid(&s), turn++);
@@ -1051,19 +1131,19 @@ static void bundle_lines(void)
         const char *what, *bundle, *text;
     } answered[] = {
         {"no byte", "", ""},
-        {"an empty clause", "clause\n", "end\t1\t0\n"},
-        {"two empty clauses", "clause\nclause\n", "end\t1\t0\nend\t1\t0\n"},
+        {"an empty clause", "clause\n", NO_LINES_END},
+        {"two empty clauses", "clause\nclause\n", NO_LINES_END NO_LINES_END},
         {"an empty line", "clause\n\n", "no\t1\t1\n"},
-        {"a longer word", "clause\nclauses\nclause\n", "no\t1\t1\nend\t1\t0\n"},
-        {"a shorter word", "clause\nclaus\nclause\n", "no\t1\t1\nend\t1\t0\n"},
-        {"a blank behind the word", "clause\nreset\nclause \nclause\n", "no\t2\t1\nend\t1\t0\n"},
+        {"a longer word", "clause\nclauses\nclause\n", "no\t1\t1\n" NO_LINES_END},
+        {"a shorter word", "clause\nclaus\nclause\n", "no\t1\t1\n" NO_LINES_END},
+        {"a blank behind the word", "clause\nreset\nclause \nclause\n", "no\t2\t1\n" NO_LINES_END},
         {"a blank before the word", "clause\n clause\n", "no\t1\t1\n"},
         {"a CR behind the word", "clause\nclause\r\n", "no\t1\t1\n"},
         {"a capital", "clause\nClause\n", "no\t1\t1\n"},
         {"an empty field before the word", "clause\n\tclause\n", "no\t1\t1\n"},
-        {"what is refused goes no further", "clause\nx\nperm\t1\nclause\nperm\t1\n", "no\t1\t1\nend\t1\t0\n"},
-        {"records behind another's events", "clause\nreset\nclause\nperm\t1\n", "end\t1\t0\nend\t1\t0\n"},
-        {"another clause's variable", "clause\nperm\t1\nclause\nsafe\t0\n", "end\t1\t0\nno\t1\t3\n"},
+        {"what is refused goes no further", "clause\nx\nperm\t1\nclause\nperm\t1\n", "no\t1\t1\n" NO_LINES_END},
+        {"records behind another's events", "clause\nreset\nclause\nperm\t1\n", NO_LINES_END NO_LINES_END},
+        {"another clause's variable", "clause\nperm\t1\nclause\nsafe\t0\n", NO_LINES_END "no\t1\t3\n"},
     };
     size_t i;
     for (i = 0; i < sizeof refused / sizeof refused[0]; i++) {
@@ -1082,39 +1162,56 @@ static void long_bundles(void)
 {
     static uint8_t bundle[2 * FENOMIRASK_SHEET_BYTES];
     const struct function *f = &functions[BUNDLE];
-    size_t bytes;
+    const size_t full = FENOMIRASK_SHEET_BYTES, rest = full - OPENING;
+    char refused[64];
+    size_t bytes = (size_t)sprintf(refused, "no\t1\t%d\n", FENOMIRASK_FULL);
     memset(bundle, '\n', sizeof bundle);
-    expect_refusal("65,536 LFs", f, bundle, 65536, 0, FENOMIRASK_FORBIDDEN_ORDER);
-    expect_refusal("65,537 LFs", f, bundle, 65537, 0, FENOMIRASK_FULL);
-    expect_refusal("131,072 LFs", f, bundle, 131072, 0, FENOMIRASK_FULL);
+    expect_refusal("a full bundle of LFs", f, bundle, full, 0, FENOMIRASK_FORBIDDEN_ORDER);
+    expect_refusal("an LF too many", f, bundle, full + 1, 0, FENOMIRASK_FULL);
+    expect_refusal("twice as many LFs", f, bundle, 2 * full, 0, FENOMIRASK_FULL);
     memset(bundle, 0xFF, sizeof bundle);
-    expect_refusal("65,536 bytes and no LF", f, bundle, 65536, 0, FENOMIRASK_UNKNOWN_FORM);
-    expect_refusal("65,537 bytes and no LF", f, bundle, 65537, 0, FENOMIRASK_FULL);
+    expect_refusal("a full bundle and no LF", f, bundle, full, 0, FENOMIRASK_UNKNOWN_FORM);
+    expect_refusal("a byte too many and no LF", f, bundle, full + 1, 0, FENOMIRASK_FULL);
     repeat(bundle, "clause\t1\n", 1);
-    expect_refusal("65,537 bytes, a field more", f, bundle, 65537, 0, FENOMIRASK_FULL);
+    expect_refusal("a byte too many, a field more", f, bundle, full + 1, 0, FENOMIRASK_FULL);
 
-    bytes = repeat(bundle, "clause\ntail\t0\ntail\t0\ntail\t0\n", 1);
-    bytes += repeat(bundle + bytes, "reset\n", 10918);
-    count(bytes == 65536, "a bundle's length", f->word, 0, (int64_t)bytes, 65536);
-    expect_text("65,536 bytes of good lines", f, bundle, bytes, ROOM, "end\t1\t0\n", 8);
-    expect_refusal("65,535 bytes, the last LF missing", f, bundle, bytes - 1, 0, FENOMIRASK_UNKNOWN_FORM);
-    bundle[bytes] = '\n';
-    expect_refusal("65,537 bytes of lines", f, bundle, bytes + 1, 0, FENOMIRASK_FULL);
+    repeat(bundle, opening, 1);
+    put_silent(bundle + OPENING, rest);
+    expect_text("a full bundle of good lines", f, bundle, full, ROOM, TEXT(NO_LINES_END));
+    expect_refusal("its last LF missing", f, bundle, full - 1, 0, FENOMIRASK_UNKNOWN_FORM);
+    bundle[full] = '\n';
+    expect_refusal("lines, a byte too many", f, bundle, full + 1, 0, FENOMIRASK_FULL);
 
-    bytes = repeat(bundle, opening, 1);
-    put_long_line(bundle + bytes, 65536 - bytes, "head", "\t-");
-    expect_text("a line as long as it may be, too many arguments", f, bundle, 65536, ROOM, "no\t1\t7\n", 7);
-    put_long_line(bundle + bytes, 65536 - bytes, "temp\th\t1\th:1", ",h:1");
-    expect_text("a line as long as it may be, too many uses", f, bundle, 65536, ROOM, "no\t1\t7\n", 7);
-    put_long_line(bundle, 65536, "clause\t", "-");
-    expect_refusal("a `clause` line as long as it may be", f, bundle, 65536, 0, FENOMIRASK_UNKNOWN_FORM);
+    put_long_line(bundle + OPENING, rest, "head", "\t-");
+    expect_text("a line as long as it may be, too many arguments", f, bundle, full, ROOM, refused, bytes);
+    put_long_line(bundle + OPENING, rest, "temp\th\t1\th:1", ",h:1");
+    expect_text("a line as long as it may be, too many uses", f, bundle, full, ROOM, refused, bytes);
+    put_long_line(bundle, full, "clause\t", "-");
+    expect_refusal("a `clause` line as long as it may be", f, bundle, full, 0, FENOMIRASK_UNKNOWN_FORM);
 }
 
-/* A clause that so many marks let print 21 bytes each, its first mark the more. Returns its bytes. */
+/* A clause that prints as much again with each of so many marks. Returns its bytes. */
 static size_t put_printing(uint8_t *at, size_t marks)
 {
-    size_t bytes = repeat(at, "clause\ntemp\tl1\t65535\t-\nargs\t8\nvar\tq\td\tm1\t0\n", 1);
+    size_t bytes = (size_t)sprintf((char *)at, "%stemp\tl1\t%d\t-\nargs\t8\nvar\tq\td\tm1\t0\n", opening, LAST_COUNT);
     return bytes + repeat(at + bytes, "var\tf\td\th\t0\n", marks);
+}
+
+/* What such a clause prints with few marks, in bytes. */
+static int64_t printed_by(size_t marks)
+{
+    uint8_t clause[256], text[1024];
+    size_t bytes = put_printing(clause, marks);
+    return fenomirask_events(clause + OPENING, bytes - OPENING, text, sizeof text);
+}
+
+/* How many lines there are. */
+static size_t lines_of(const uint8_t *lines, size_t bytes)
+{
+    size_t at, number = 0;
+    for (at = 0; at < bytes; at = next_line(lines, bytes, at))
+        number++;
+    return number;
 }
 
 /* Answers as long as a bundle may be, and longer; what a refused clause printed counts nowhere. */
@@ -1122,54 +1219,61 @@ static void long_bundle_answers(void)
 {
     static uint8_t bundle[2 * FENOMIRASK_SHEET_BYTES], text[LARGE_ROOM];
     const struct function *f = &functions[BUNDLE];
-    static const char late[] = "no\t3404\t1\nend\t1\t0\n";
+    const size_t ends = ROOM / strlen(NO_LINES_END);
+    const size_t marks = ROOM / (size_t)(printed_by(1) - printed_by(0)) + 1; /* they print more than ROOM */
+    char late[64];
     size_t bytes, text_bytes;
 
-    bytes = repeat(bundle, opening, 8192);
-    text_bytes = repeat(text, "end\t1\t0\n", 8192);
-    count(text_bytes == ROOM, "an answer's length", f->word, 0, (int64_t)text_bytes, ROOM);
-    expect_text("8,192 empty clauses", f, bundle, bytes, LARGE_ROOM, text, text_bytes);
-    bytes = repeat(bundle, opening, 8193);
-    text_bytes = repeat(text, "end\t1\t0\n", 8193);
-    expect("8,193 empty clauses", f, bundle, bytes, ROOM, -FENOMIRASK_NO_ROOM, "");
-    expect_text("8,193 empty clauses", f, bundle, bytes, LARGE_ROOM, text, text_bytes);
+    bytes = repeat(bundle, opening, ends);
+    text_bytes = repeat(text, NO_LINES_END, ends);
+    count(text_bytes <= ROOM, "an answer's length", f->word, 0, (int64_t)text_bytes, ROOM);
+    expect_text("as many empty clauses as have room", f, bundle, bytes, LARGE_ROOM, text, text_bytes);
+    bytes = repeat(bundle, opening, ends + 1);
+    text_bytes = repeat(text, NO_LINES_END, ends + 1);
+    expect("one more", f, bundle, bytes, ROOM, -FENOMIRASK_NO_ROOM, "");
+    expect_text("one more", f, bundle, bytes, LARGE_ROOM, text, text_bytes);
     bytes = repeat(bundle, opening, FENOMIRASK_SHEET_BYTES / OPENING);
     expect_clauses("as many clauses as there may be", bundle, bytes);
 
-    bytes = put_printing(bundle, 3400);
-    expect_clauses("one clause that prints more than 65,536 bytes", bundle, bytes);
-    expect_longer("one clause that prints more than 65,536 bytes", f, bundle, bytes);
+    bytes = put_printing(bundle, marks);
+    expect_clauses("one clause that prints too much", bundle, bytes);
+    expect_longer("one clause that prints too much", f, bundle, bytes);
+    /* the clause has one line fewer than the bundle, and a further one is refused */
+    sprintf(late, "no\t%zu\t%d\n%s", lines_of(bundle, bytes), FENOMIRASK_UNKNOWN_FORM, NO_LINES_END);
     bytes += repeat(bundle + bytes, "x\nclause\n", 1);
     expect_text("so one, refused at its end", f, bundle, bytes, ROOM, late, strlen(late));
     expect_text("so one, refused at its end", f, bundle, bytes, LARGE_ROOM, late, strlen(late));
 
-    bytes = put_printing(bundle, 3200);
-    bytes += put_printing(bundle + bytes, 2100);
+    bytes = put_printing(bundle, marks);
+    bytes += put_printing(bundle + bytes, marks * 2 / 3);
     bytes += repeat(bundle + bytes, "x\n", 1);
-    expect_longer("more than 65,536 bytes, and a long clause refused at its end", f, bundle, bytes);
-    expect_clauses("more than 65,536 bytes, and a long clause refused at its end", bundle, bytes);
+    expect_longer("too much, and a long clause refused at its end", f, bundle, bytes);
+    expect_clauses("too much, and a long clause refused at its end", bundle, bytes);
     bytes += repeat(bundle + bytes, opening, 1);
     expect_clauses("the same, and a clause behind it", bundle, bytes);
-    bytes = put_printing(bundle, 2100);
+    bytes = put_printing(bundle, marks * 2 / 3);
     bytes += repeat(bundle + bytes, "x\n", 1);
-    bytes += put_printing(bundle + bytes, 3200);
-    expect_longer("a long clause refused at its end, and more than 65,536 bytes", f, bundle, bytes);
-    expect_clauses("a long clause refused at its end, and more than 65,536 bytes", bundle, bytes);
+    bytes += put_printing(bundle + bytes, marks);
+    expect_longer("a long clause refused at its end, and too much", f, bundle, bytes);
+    expect_clauses("a long clause refused at its end, and too much", bundle, bytes);
 }
 
 /* Four clauses in each order: their answers stand in that order, whatever is before them. */
 static void exchanged_clauses(void)
 {
+    static char crowded[64], crowded_ends[64];
     static const struct {
         const char *lines, *text;
     } clauses[] = {
-        {"", "end\t1\t0\n"},
+        {"", NO_LINES_END},
         {first, first_ends},
         {"perm\t1\nreset\nperm\t1\n", "no\t3\t2\n"},
-        {"open\t1\t2\t3\nargs\t63\ngive\t5\n", "end\t64\t0\n"},
+        {crowded, crowded_ends},
     };
     enum { CLAUSES = sizeof clauses / sizeof clauses[0], ORDERS = 1 << 2 * CLAUSES };
     unsigned order, orders = 0;
+    sprintf(crowded, "open\t1\t2\t3\nargs\t%d\ngive\t5\n", LAST_REGISTER);
+    sprintf(crowded_ends, "end\t%d\t0\n", LAST_COUNTER);
     for (order = 0; order < ORDERS; order++) {
         uint8_t bundle[1024], text[1024];
         size_t bytes = 0, text_bytes = 0, i;
@@ -1221,7 +1325,7 @@ static uint8_t *read_all(const char *path, size_t *bytes)
         exit(2);
     }
     do {
-        room = room * 2 + 65536;
+        room = room * 2 + ROOM;
         data = realloc(data, room + 1);
         if (data == NULL) {
             perror(path);
@@ -1248,7 +1352,7 @@ static int64_t wanted_of(const struct function *f, const uint8_t *text, size_t b
     memcpy(told, text, bytes < sizeof told ? bytes : sizeof told - 1);
     if (sscanf(told, "no\t%lu\t%d", &line, &refusal) != 2)
         return 0;
-    return -(int64_t)(16 * line + (unsigned)refusal);
+    return refused_at(line, refusal);
 }
 
 static struct stream read_stream(const char *path)

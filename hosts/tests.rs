@@ -14,12 +14,24 @@ mod fenomirask;
 
 use fenomirask::{
     BranchRow, BranchSets, Clause, Counters, FreedSlot, Record, Refusal, Refused, Safety, State,
-    EVENT_ROOM, SHEET_BYTES,
+    EVENT_ROOM, FREED_REGISTERS, FREED_SLOTS, LAST_REGISTER, NO_VARIABLE, OPEN_BRANCHES, REGISTERS,
+    SHEET_BYTES, USES, VARIABLES,
 };
+
+/// Occurrences, running counts, arms and arm indices are 0 to this: rule 3.7 of docs/RULES.md.
+const LAST_COUNT: u32 = 65_535;
+/// The argument counter, the search start and the next slot are 1 to this: rule 3.11.
+const LAST_COUNTER: u32 = LAST_REGISTER + 1;
+/// Step lines of a check sheet, `call` among them: rule 3.15.
+const STEPS: usize = 256;
+/// A use is so many times its context, and its register; a context is 0 in the head, or a chunk behind one of these.
+const USE_WEIGHT: u64 = 256;
+const MIDDLE: u64 = 256;
+const LAST_GOAL: u64 = 512;
 
 const GUARD: usize = 64;
 /// The room for which a stream's answers hold.
-const ROOM: usize = 65_536;
+const ROOM: usize = SHEET_BYTES;
 /// Room for every answer.
 const LARGE_ROOM: usize = 1 << 20;
 const SHOWN: usize = 20;
@@ -157,23 +169,18 @@ fn whole_sheets(counts: &mut Counts) {
             counts.expect_refusal(&what, answer, &vec![byte; SHEET_BYTES + 1], TOO_LONG);
         }
     }
-    let sheet = ["tail\t0\n".repeat(4), "reset\n".repeat(10_918)].concat();
-    assert_eq!(sheet.len(), SHEET_BYTES);
-    counts.expect_text(
-        "a full sheet",
-        fenomirask::events,
-        sheet.as_bytes(),
-        ROOM,
-        END,
-    );
-    let sheet = ["tail\t0\n".repeat(5), "reset\n".repeat(10_917)].concat();
-    assert_eq!(sheet.len(), SHEET_BYTES + 1);
-    counts.expect_refusal(
-        "one byte more",
-        fenomirask::events,
-        sheet.as_bytes(),
-        TOO_LONG,
-    );
+    let (full, past) = (silent(SHEET_BYTES), silent(SHEET_BYTES + 1));
+    counts.expect_text("a full sheet", fenomirask::events, &full, ROOM, END);
+    counts.expect_refusal("one byte more", fenomirask::events, &past, TOO_LONG);
+}
+
+/// Good lines of exactly so many bytes that print nothing.
+fn silent(bytes: usize) -> Vec<u8> {
+    let (line, longer) = ("reset\n", "tail\t0\n"); // longer by one byte
+    let longer_lines = longer.repeat(bytes % line.len());
+    let lines = line.repeat((bytes - longer_lines.len()) / line.len());
+    assert_eq!(longer_lines.len() + lines.len(), bytes);
+    [longer_lines, lines].concat().into_bytes()
 }
 
 /// Check sheets, blanks standing for tabs, and whether they are accepted.
@@ -225,18 +232,21 @@ fn spoilt_registers(counts: &mut Counts) {
     for (sheet, accepted) in VERDICTS {
         expect(sheet, accepted);
     }
-    for k in 1..=63 {
+    for k in 1..=LAST_REGISTER {
         expect(&format!("h {k} 0\ng {k} 0\ncall\n"), true);
         expect(&format!("h {k} 0\ng {k} 0\ncall\ng {k} 0\ncall\n"), false);
         let (kept, put) = (format!("get_variable y{k} 1"), format!("put_value y{k} 1"));
         expect(&format!("h 1 0\n{kept}\ncall\ng 1 0\n{put}\ncall\n"), true);
     }
     // As many calls as fit between a head step and a goal; and a sheet of nothing but calls.
-    let calls = "call\n".repeat(253);
+    let calls = "call\n".repeat(STEPS - 3);
     expect(&format!("h 1 0\n{calls}g 1 0\ncall\n"), false);
-    let (kept, put) = ("get_variable y63 1", "put_value y63 1");
+    let (kept, put) = (
+        format!("get_variable y{LAST_REGISTER} 1"),
+        format!("put_value y{LAST_REGISTER} 1"),
+    );
     expect(&format!("h 1 0\n{kept}\n{calls}g 1 0\n{put}\ncall\n"), true);
-    expect(&"call\n".repeat(256), true);
+    expect(&"call\n".repeat(STEPS), true);
 }
 
 /// The refusals' numbers and words.
@@ -251,21 +261,21 @@ fn refusals(counts: &mut Counts) {
     }
     words.sort();
     words.dedup();
-    counts.count(words.len() == 9, || {
+    let last = Refusal::ALL.len();
+    counts.count(words.len() == last, || {
         "two refusals have the same words".to_string()
     });
     counts.count(
-        Refusal::of_number(0).is_none() && Refusal::of_number(10).is_none(),
-        || "refusal 0 or 10".to_string(),
+        Refusal::of_number(0).is_none() && Refusal::of_number(last + 1).is_none(),
+        || "a refusal before the first or behind the last".to_string(),
     );
     let told = Refused {
         line: 3,
         refusal: Refusal::NoRegister,
     }
     .to_string();
-    counts.count(told == "line 3: no register up to 63 can be chosen", || {
-        told.clone()
-    });
+    let wanted = format!("line 3: no register up to {LAST_REGISTER} can be chosen");
+    counts.count(told == wanted, || told.clone());
 }
 
 // ---- One line at a time
@@ -400,28 +410,28 @@ fn fresh_state() -> State {
             open_branches: 0,
             in_use: 0,
         },
-        records: [record; 64],
-        use_sets: [[0; 16]; 64],
-        use_counts: [0; 64],
-        no_use: [0; 64],
-        conflict: [0; 64],
-        mappings: [64; 64],
-        freed_registers: [0; 64],
+        records: [record; VARIABLES],
+        use_sets: [[0; USES]; VARIABLES],
+        use_counts: [0; VARIABLES],
+        no_use: [0; VARIABLES],
+        conflict: [0; VARIABLES],
+        mappings: [NO_VARIABLE; REGISTERS],
+        freed_registers: [0; FREED_REGISTERS],
         freed_slots: [FreedSlot {
             chunk: 0,
             variable: 0,
-        }; 128],
+        }; FREED_SLOTS],
         branch_rows: [BranchRow {
             start: 0,
             span: 0,
             num_branches: 0,
             current_branch_idx: 0,
-        }; 16],
+        }; OPEN_BRANCHES],
         branch_sets: [BranchSets {
             shallow_safety: 0,
             deep_safety: 0,
             subsumed_hits: 0,
-        }; 16],
+        }; OPEN_BRANCHES],
     }
 }
 
@@ -543,9 +553,11 @@ fn reached(counts: &mut Counts) -> Clause {
     number("context", s.records[2].context.into(), 1);
     number("chunk", s.records[2].chunk.into(), 7);
     number("register", s.records[2].place.into(), 4);
-    number("no variable", s.records[2].to_perm_var_num.into(), 64);
-    number("a use", s.use_sets[2][0].into(), 256 * 513 + 2);
-    number("a use", s.use_sets[2][1].into(), 256 * 259 + 4);
+    let moved_to = s.records[2].to_perm_var_num;
+    number("no variable", moved_to.into(), NO_VARIABLE.into());
+    let uses = s.use_sets[2];
+    number("a use", uses[0].into(), USE_WEIGHT * (LAST_GOAL + 1) + 2);
+    number("a use", uses[1].into(), USE_WEIGHT * (MIDDLE + 3) + 4);
     number("uses", s.use_counts[2].into(), 3);
     number("conflict", s.conflict[2], 0b10);
     number("mapping", s.mappings[4].into(), 2);
@@ -626,41 +638,83 @@ fn long_lines(counts: &mut Counts) {
 /// States with one number changed, that are valid or not.
 fn spoilt_states(counts: &mut Counts, good: &Clause) {
     type Spoil = fn(&mut State, u32);
+    const MOST_RECORDS: u32 = VARIABLES as u32;
+    const REGISTERS_FREED: u32 = FREED_REGISTERS as u32;
+    const SLOTS_FREED: u32 = FREED_SLOTS as u32;
+    const BRANCHES: u32 = OPEN_BRANCHES as u32;
+    /// Of the clause that is spoilt: its variables, and the permanent ones, which are the first.
+    const RECORDS: u32 = 4;
+    const PERMANENT: u32 = 2;
     let spoils: [(&str, Spoil, u32, u32); 26] = [
-        ("arg_c", |s, n| s.counters.arg_c = n, 64, 65),
+        (
+            "arg_c",
+            |s, n| s.counters.arg_c = n,
+            LAST_COUNTER,
+            LAST_COUNTER + 1,
+        ),
         ("temp_lb", |s, n| s.counters.temp_lb = n, 1, 0),
-        ("perm_lb", |s, n| s.counters.perm_lb = n, 64, 65),
-        ("arity", |s, n| s.counters.arity = n, 63, 64),
+        (
+            "perm_lb",
+            |s, n| s.counters.perm_lb = n,
+            LAST_COUNTER,
+            LAST_COUNTER + 1,
+        ),
+        (
+            "arity",
+            |s, n| s.counters.arity = n,
+            LAST_REGISTER,
+            LAST_REGISTER + 1,
+        ),
         ("tail", |s, n| s.counters.in_tail_position = n, 0, 2),
-        ("records", |s, n| s.counters.records = n, 64, 65),
+        (
+            "records",
+            |s, n| s.counters.records = n,
+            MOST_RECORDS,
+            MOST_RECORDS + 1,
+        ),
         ("seen", |s, n| s.counters.events_seen = n, 0, 2),
         (
             "freed registers",
             |s, n| s.counters.freed_registers = n,
             0,
-            65,
+            REGISTERS_FREED + 1,
         ),
         (
             "first slot",
             |s, n| s.counters.first_freed_slot = n,
-            127,
-            128,
+            SLOTS_FREED - 1,
+            SLOTS_FREED,
         ),
-        ("freed slots", |s, n| s.counters.freed_slots = n, 128, 129),
-        ("open branches", |s, n| s.counters.open_branches = n, 16, 17),
-        ("in use", |s, n| s.counters.in_use = n.into(), 2, 1),
+        (
+            "freed slots",
+            |s, n| s.counters.freed_slots = n,
+            SLOTS_FREED,
+            SLOTS_FREED + 1,
+        ),
+        (
+            "open branches",
+            |s, n| s.counters.open_branches = n,
+            BRANCHES,
+            BRANCHES + 1,
+        ),
+        (
+            "in use",
+            |s, n| s.counters.in_use = n.into(),
+            1 << 1,
+            1 << 0,
+        ),
         ("kind", |s, n| s.records[3].kind = n, 1, 2),
         (
             "to_perm_var_num",
             |s, n| s.records[2].to_perm_var_num = n,
-            3,
-            4,
+            RECORDS - 1,
+            RECORDS,
         ),
         (
             "running count",
             |s, n| s.records[3].running_count = n,
-            65_535,
-            65_536,
+            LAST_COUNT,
+            LAST_COUNT + 1,
         ),
         (
             "start",
@@ -670,43 +724,58 @@ fn spoilt_states(counts: &mut Counts, good: &Clause) {
         ),
         (
             "past the records",
-            |s, n| s.records[4].kind = n,
+            |s, n| s.records[RECORDS as usize].kind = n,
             u32::MAX,
             u32::MAX,
         ),
-        ("a use", |s, n| s.use_sets[2][1] = n, 63, 64),
+        (
+            "a use",
+            |s, n| s.use_sets[2][1] = n,
+            LAST_REGISTER,
+            LAST_REGISTER + 1,
+        ),
         (
             "a use past the count",
             |s, n| s.use_sets[2][3] = n,
             u32::MAX,
             u32::MAX,
         ),
-        ("conflict", |s, n| s.conflict[3] = n.into(), 2, 1),
-        ("mapping", |s, n| s.mappings[0] = n, 3, 1),
-        ("freed register", |s, n| s.freed_registers[1] = n, 63, 0),
+        ("conflict", |s, n| s.conflict[3] = n.into(), 1 << 1, 1 << 0),
+        (
+            "mapping",
+            |s, n| s.mappings[0] = n,
+            RECORDS - 1,
+            PERMANENT - 1,
+        ),
+        (
+            "freed register",
+            |s, n| s.freed_registers[1] = n,
+            LAST_REGISTER,
+            0,
+        ),
         (
             "owner of a slot",
             |s, n| s.freed_slots[0].variable = n,
-            3,
-            4,
+            RECORDS - 1,
+            RECORDS,
         ),
         (
             "arms",
             |s, n| s.branch_rows[0].num_branches = n,
-            65_535,
-            65_536,
+            LAST_COUNT,
+            LAST_COUNT + 1,
         ),
         (
             "shallow",
             |s, n| s.branch_sets[0].shallow_safety = n.into(),
-            15,
-            16,
+            (1 << RECORDS) - 1,
+            1 << RECORDS,
         ),
         (
             "hits",
             |s, n| s.branch_sets[0].subsumed_hits = n.into(),
-            3,
-            4,
+            (1 << PERMANENT) - 1,
+            1 << PERMANENT,
         ),
     ];
     for (what, spoil, inside, outside) in spoils {
@@ -759,6 +828,11 @@ fn bundled(clauses: &[&[u8]]) -> Vec<u8> {
         .collect()
 }
 
+/// The line that is printed of a clause that is refused.
+fn no_line(line: usize, refusal: Refusal) -> Vec<u8> {
+    format!("no\t{line}\t{}\n", refusal as usize).into_bytes()
+}
+
 /// What a clause prints: the answer to its lines, or its `no` line.
 fn clause_text(lines: &[u8]) -> Vec<u8> {
     let mut out = vec![0; LARGE_ROOM];
@@ -766,7 +840,7 @@ fn clause_text(lines: &[u8]) -> Vec<u8> {
         Ok(written) => out[..written].to_vec(),
         Err(Refused { line, refusal }) => {
             assert!(line > 0, "a clause is refused at a line");
-            format!("no\t{line}\t{}\n", refusal as usize).into_bytes()
+            no_line(line, refusal)
         }
     }
 }
@@ -883,9 +957,7 @@ fn long_bundles(counts: &mut Counts) {
         counts.expect_refusal(&what, fenomirask::bundle, full, on_line(0, refusal));
         counts.expect_refusal(&what, fenomirask::bundle, &bytes, TOO_LONG);
     }
-    let lines = ["tail\t0\n".repeat(3), "reset\n".repeat(10_918)].concat();
-    let mut bundle = bundled(&[lines.as_bytes()]);
-    assert_eq!(bundle.len(), SHEET_BYTES);
+    let mut bundle = bundled(&[&silent(SHEET_BYTES - OPENING.len())]);
     counts.expect_text("a full bundle", fenomirask::bundle, &bundle, ROOM, END);
     bundle.push(b'\n');
     counts.expect_refusal("one byte more", fenomirask::bundle, &bundle, TOO_LONG);
@@ -895,45 +967,49 @@ fn long_bundles(counts: &mut Counts) {
         fenomirask::bundle,
         &bundled(&[&line]),
         ROOM,
-        b"no\t1\t7\n",
+        &no_line(1, Refusal::Full),
     );
 }
 
-/// Lines whose marks print 21 bytes each.
+/// Lines that print as much again with each of so many marks.
 fn printing(marks: usize) -> String {
-    let first = "temp\tl1\t65535\t-\nargs\t8\nvar\tq\td\tm1\t0\n";
-    [first, &"var\tf\td\th\t0\n".repeat(marks)].concat()
+    let first = format!("temp\tl1\t{LAST_COUNT}\t-\nargs\t8\nvar\tq\td\tm1\t0\n");
+    [first, "var\tf\td\th\t0\n".repeat(marks)].concat()
 }
 
 /// Answers as long as a bundle may be, and longer; what a refused clause printed counts nowhere.
 fn long_bundle_answers(counts: &mut Counts) {
-    let bundle = OPENING.repeat(8_193);
-    let (text, fitting) = (END.repeat(8_193), OPENING.len() * 8_192);
+    let ends = ROOM / END.len();
+    let (bundle, text) = (OPENING.repeat(ends + 1), END.repeat(ends + 1));
     counts.expect_text(
-        "8,192 empty clauses",
+        "as many empty clauses as have room",
         fenomirask::bundle,
-        &bundle[..fitting],
+        &bundle[..OPENING.len() * ends],
         ROOM,
-        &text[..ROOM],
+        &text[..END.len() * ends],
     );
-    counts.expect_clauses("8,193 empty clauses", &bundle);
-    counts.expect_longer("8,193 empty clauses", fenomirask::bundle, &bundle);
+    counts.expect_clauses("one more", &bundle);
+    counts.expect_longer("one more", fenomirask::bundle, &bundle);
 
-    let (long, refused) = (printing(3_400), printing(3_400) + "x\n");
+    let printed = |marks| clause_text(printing(marks).as_bytes()).len();
+    let marks = ROOM / (printed(1) - printed(0)) + 1; // they print more than ROOM
+    let (long, refused) = (printing(marks), printing(marks) + "x\n");
     let bundle = bundled(&[long.as_bytes()]);
     counts.expect_clauses("one clause alone too long", &bundle);
     counts.expect_longer("one clause alone too long", fenomirask::bundle, &bundle);
     let bundle = bundled(&[refused.as_bytes(), b""]);
+    let last_line = refused.lines().count();
+    let text = [&no_line(last_line, Refusal::UnknownForm), END].concat();
     for room in [ROOM, LARGE_ROOM] {
         counts.expect_text(
             "a long clause refused at its end",
             fenomirask::bundle,
             &bundle,
             room,
-            b"no\t3404\t1\nend\t1\t0\n",
+            &text,
         );
     }
-    let (long, refused) = (printing(3_200), printing(2_100) + "x\n");
+    let refused = printing(marks * 2 / 3) + "x\n";
     let (long, refused) = (long.as_bytes(), refused.as_bytes());
     for clauses in [[long, refused, b""], [refused, b"", long]] {
         let bundle = bundled(&clauses);

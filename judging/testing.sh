@@ -28,6 +28,11 @@ COUNTS
     failed=$((failed + ${now_failed:?no case was run}))
 }
 
+# defined WHAT [NAME...]: what tests/helpers/definitions.py tells of the definitions: words of lines, or numbers of refusals.
+defined() {
+    python3 ../tests/helpers/definitions.py "$@"
+}
+
 # check NAME CONDITION...: counts a test, its condition given as to `test`.
 check() {
     name=$1

@@ -6,6 +6,7 @@ A frame is a decimal byte count, an LF, and so many bytes. In a stream each shee
 """
 import collections
 import dataclasses
+import functools
 import os
 import re
 import subprocess
@@ -13,21 +14,33 @@ import sys
 import time
 from collections.abc import Callable
 
-HELPERS = os.path.dirname(os.path.abspath(__file__))
-TESTS = os.path.dirname(HELPERS)
-ROOT = os.path.dirname(TESTS)
+from helpers.definitions import REFUSALS, ROOT, SIZES, instruction_words, read, refusal_numbers, words
+
+TESTS = os.path.join(ROOT, "tests")
+HELPERS = os.path.join(TESTS, "helpers")
 ORACLE = os.path.join(ROOT, "oracle", "target", "release")
 DECIDER = os.path.join(ROOT, "decider", "target", "release")
 BUNDLE_CASES = os.path.join(ROOT, "oracle", "cases", "bundles.txt")
 CHECK_CASES = [os.path.join(ROOT, "decider", "cases", name) for name in ("known.txt", "examples.txt", "readings.txt")]
 # An emulator carries out the processor's copy instruction byte by byte: without it a program runs many times faster.
 ENVIRONMENT = dict(os.environ, QEMU_CPU="max,-erms")
-SHEET_BYTES = 65_536
+SHEET_BYTES = SIZES.SHEET_BYTES
+COUNT, SEEDS = 20_000, range(1, 7)  # generated sheets of each seed, and the seeds, where the command names none
 FALSIFIED = 300  # as many sheets stand in a stream with a falsified answer
+LONGEST_REPLAYED = 2 * SHEET_BYTES  # bytes of a sheet that the program `replays` takes
+MANY_DIGITS = 30  # of a number that is far too large
 SHOWN = 5
-# Two bound temporaries. From there `var f d h 0` prints 21 bytes, `cut 0 0` 6 and `cut 1 0` 7; the answer has 22 more.
-BOUND = b"temp h 0 -\ntemp h 0 -\ncut 0 0\nargs 9\ncut 1 0\n"
-BOUND_PRINTS = 22
+# Two bound temporaries, of which the second has a register with one digit more; a line that prints much from there, and two
+# that print as much as their registers have digits.
+BOUND = b"temp\th\t0\t-\ntemp\th\t0\t-\ncut\t0\t0\nargs\t9\ncut\t1\t0\n"
+MARK, CUT, LONGER_CUT = b"var\tf\td\th\t0\n", b"cut\t0\t0\n", b"cut\t1\t0\n"
+NO_LINES_END = b"end\t1\t0\n"  # the answer to an event sheet, or a clause, without lines
+ACCEPTED, REJECTED = b"accepted\n", b"rejected\n"
+PAUSE = 0.05  # seconds between pieces of input
+SMALL_PIECES = [1, 7, 30]  # bytes of them
+PIECE = 5_000
+PIECES, LAST_PIECE = [PIECE] * (SHEET_BYTES // PIECE), SHEET_BYTES % PIECE  # of a full sheet
+HUGE = 5_000_000  # bytes of an input that is far too long
 CLAUSE = b"clause"
 CLAUSE_LINE = re.compile(rb"^clause\n", re.MULTILINE)
 # The answer to one clause of a bundle, up to its last line.
@@ -87,6 +100,11 @@ def streamed(data):
     return len(parts(data))
 
 
+def no_line(line, number):
+    """The line that is printed of a refusal."""
+    return b"no\t%d\t%d\n" % (line, number)
+
+
 def refusal(answer):
     """The line and the number of a refusal, or two zeros."""
     return tuple(map(int, answer.split()[1:])) if answer.startswith(b"no\t") else (0, 0)
@@ -102,26 +120,47 @@ def lines_read(sheet, answer):
     """The lines that were read: up to the one that is refused, and none of a sheet that is too long."""
     line, number = refusal(answer)
     lines = sheet.split(b"\n")
-    return [] if (line, number) == (0, 7) else lines[: line or len(lines)]
+    return [] if (line, number) == (0, REFUSALS.FULL) else lines[: line or len(lines)]
 
 
-# ---- Event sheets of a given length
+# ---- Sheets of a given length
+
+
+def shares(length, size):
+    """How many parts of a size, and how many of one more, have exactly such a length together."""
+    longer = length % size
+    return (length - longer * (size + 1)) // size, longer
+
+
+def of_length(length, line, longer):
+    """So many bytes of two lines, of which one has one byte more than the other."""
+    lines, longer_lines = shares(length, len(line))
+    return longer * longer_lines + line * lines
+
+
+def silent(length):
+    """An event sheet of exactly so many bytes that prints its last line only."""
+    return of_length(length, b"sets\n", b"reset\n")
+
+
+@functools.cache
+def bytes_printed():
+    """How many bytes are printed of BOUND, its last line counted, and how many more of each line behind it."""
+    first, *others = map(len, judged_events([BOUND + line for line in (b"", MARK, CUT, LONGER_CUT)]))
+    return [first, *(size - first for size in others)]
 
 
 def answer_of(length):
     """A sheet whose answer has exactly so many bytes."""
-    rest = length - BOUND_PRINTS
-    marks = (rest - 60) // 21
-    rest -= 21 * marks
-    sevens = rest % 6
-    lines = [b"var f d h 0\n"] * marks + [b"cut 0 0\n"] * ((rest - 7 * sevens) // 6) + [b"cut 1 0\n"] * sevens
-    return (BOUND + b"".join(lines)).replace(b" ", b"\t")
+    first, mark, cut, longer_cut = bytes_printed()
+    marks, rest = divmod(length - first - cut * longer_cut, mark)
+    cuts, longer_cuts = shares(rest + cut * longer_cut, cut)
+    return BOUND + MARK * marks + CUT * cuts + LONGER_CUT * longer_cuts
 
 
-def silent(length):
-    """A sheet of exactly so many bytes that prints its last line only."""
-    sixes = length % 5
-    return b"reset\n" * sixes + b"sets\n" * ((length - 6 * sixes) // 5)
+def huge(line):
+    """A line so often that the sheet is far too long."""
+    return line * (HUGE // len(line))
 
 
 # ---- Bundles
@@ -131,10 +170,10 @@ def faults(bundle):
     """Why a bundle is refused as a whole, but for its answer's length: the numbers, in their order, each with a name."""
     word = bundle.split(b"\n", 1)[0].split(b"\t", 1)[0]
     tests = [
-        (7, "length", len(bundle) > SHEET_BYTES),
-        (1, "no LF", bundle != b"" and not bundle.endswith(b"\n")),
-        (2, "a stray line", bundle != b"" and word != CLAUSE),
-        (1, "more fields", b"\n" + CLAUSE + b"\t" in b"\n" + bundle),
+        (REFUSALS.FULL, "length", len(bundle) > SHEET_BYTES),
+        (REFUSALS.FORM, "no LF", bundle != b"" and not bundle.endswith(b"\n")),
+        (REFUSALS.ORDER, "a stray line", bundle != b"" and word != CLAUSE),
+        (REFUSALS.FORM, "more fields", b"\n" + CLAUSE + b"\t" in b"\n" + bundle),
     ]
     return [(number, name) for number, name, holds in tests if holds]
 
@@ -172,6 +211,11 @@ def lines_read_of_bundle(bundle, answer):
 
 
 # ---- Sheets and answers from elsewhere
+
+
+def example(name):
+    """The input that a program is run on in the gate, and its output."""
+    return read("crates", name, "stdin"), read("crates", name, "stdout")
 
 
 def generated(folder, seed, count, *options):
@@ -226,28 +270,30 @@ class Kind:
         return generated(self.generator, seed, count, *self.options)
 
 
-INSTRUCTIONS = (
-    b"get_variable get_value put_variable put_value put_unsafe_value set_variable set_value set_local_value "
-    b"unify_variable unify_value unify_local_value"
-).split()
+INSTRUCTIONS = instruction_words()
+# The refusals that have to come up. UNREACHABLE is given to no sheet (rule 4.8).
+EVENT_REFUSALS = refusal_numbers(but=[REFUSALS.UNREACHABLE])
+# Of a line, and so of a clause in a bundle: ROOM is said of the whole answer (rule 4.10).
+EVENT_LINE_REFUSALS = [number for number in EVENT_REFUSALS if number != REFUSALS.ROOM]
+# Only the allocator gives the others; and in the room that the programs lend there is place for every verdict.
+CHECK_REFUSALS = [REFUSALS.FORM, REFUSALS.ORDER, REFUSALS.SIZE, REFUSALS.FULL]
+# Of a whole bundle: rule 18.6.
+BUNDLE_REFUSALS = [REFUSALS.FORM, REFUSALS.ORDER, REFUSALS.FULL, REFUSALS.ROOM]
 EVENTS = Kind(
     word=b"events",
     program="event_sheet",
     generator=ORACLE,
     judged=judged_events,
-    line_words=(
-        b"temp perm sets head args var anon nonvar cut incr free safe give tail next open arm take close reset contents "
-        b"clearfree"
-    ).split(),
-    wanted=["end", *(f"refused {number}" for number in (1, 2, 3, 4, 5, 6, 7, 9))],
+    line_words=words("event_lines"),
+    wanted=["end", *(f"refused {number}" for number in EVENT_REFUSALS)],
 )
 CHECK = Kind(
     word=b"check",
     program="check_sheet",
     generator=DECIDER,
     judged=judged_check,
-    line_words=[*b"h hd g gd call".split(), *INSTRUCTIONS],
-    wanted=["accepted", "rejected", *(f"refused {number}" for number in (1, 2, 3, 7))],
+    line_words=words("check_lines"),
+    wanted=["accepted", "rejected", *(f"refused {number}" for number in CHECK_REFUSALS)],
 )
 BUNDLES = Kind(
     word=b"bundle",
@@ -258,8 +304,8 @@ BUNDLES = Kind(
     wanted=[
         "nothing",
         "end",
-        *(f"a clause refused {number}" for number in (1, 2, 3, 4, 5, 6, 7)),
-        *(f"refused {number}" for number in (1, 2, 7, 9)),
+        *(f"a clause refused {number}" for number in EVENT_LINE_REFUSALS),
+        *(f"refused {number}" for number in BUNDLE_REFUSALS),
     ],
     options=("--bundles",),
     told=told_of_bundle,
@@ -297,30 +343,35 @@ def seen_when_falsified(word, sheets, answers):
 
 def malformed_streams():
     """Streams that are none, and the sheet at which each is given up."""
-    good = b"events\t0\t8\nend\t1\t0\nbundle\t0\t0\ncheck\t0\t9\naccepted\n"
-    return [
-        (good + b"check\t0\t9", 4),
-        (good + b"0\t9\naccepted\n", 4),
-        (good + b"event\t0\t8\nend\t1\t0\n", 4),
-        (good + b"checks\t0\t9\naccepted\n", 4),
-        (good + b"bundles\t0\t0\n", 4),
-        (good + b"Bundle\t0\t0\n", 4),
-        (good + b"clause\t0\t8\nend\t1\t0\n", 4),
-        (good + b"bundle\t0\n", 4),
-        (good + b"bundle\t0\t\n", 4),
-        (good + b"check 0 9\naccepted\n", 4),
-        (good + b"check\t0\naccepted\n", 4),
-        (good + b"check\t0\t9\t0\naccepted\n", 4),
-        (good + b"check\t0\t09\naccepted\n", 4),
-        (b"events\t-1\t8\nend\t1\t0\n", 1),
-        (good + b"check\t9\t9\naccepted\n", 4),
-        (good + b"bundle\t7\t8\nclause\n", 4),
-        (good + good + b"check\t0\t10\naccepted\n", 7),
-        (b"check\t131073\t9\n" + bytes(131_073) + b"accepted\n", 1),
-        (b"events\t0\t65537\n" + bytes(65_537), 1),
-        (b"bundle\t131073\t8\n" + bytes(131_073) + b"no\t0\t7\n", 1),
-        (b"check\t" + b"1" * 30 + b"\n", 1),
+    end, verdict, opening = framed([NO_LINES_END]), framed([ACCEPTED]), CLAUSE + b"\n"
+    good = b"events\t0\t" + end + b"bundle\t0\t0\ncheck\t0\t" + verdict
+    count, too_long = streamed(good), bytes(LONGEST_REPLAYED + 1)
+    behind = [
+        b"check\t0\t%d" % len(ACCEPTED),
+        b"0\t" + verdict,
+        b"event\t0\t" + end,
+        b"checks\t0\t" + verdict,
+        b"bundles\t0\t0\n",
+        b"Bundle\t0\t0\n",
+        b"clause\t0\t" + end,
+        b"bundle\t0\n",
+        b"bundle\t0\t\n",
+        b"check 0 " + verdict,
+        b"check\t0\n" + ACCEPTED,
+        b"check\t0\t%d\t0\n" % len(ACCEPTED) + ACCEPTED,
+        b"check\t0\t0" + verdict,
+        b"check\t%d\t" % len(ACCEPTED) + verdict,
+        b"bundle\t%d\t%d\n" % (len(opening), len(NO_LINES_END)) + opening,
     ]
+    first = [
+        b"events\t-1\t" + end,
+        stream(b"check", [too_long], [ACCEPTED]),
+        stream(b"events", [b""], [bytes(SHEET_BYTES + 1)]),
+        stream(b"bundle", [too_long], [no_line(0, REFUSALS.FULL)]),
+        b"check\t" + b"1" * MANY_DIGITS + b"\n",
+    ]
+    late = good + good + b"check\t0\t%d\n" % (len(ACCEPTED) + 1) + ACCEPTED
+    return [(good + data, count + 1) for data in behind] + [(data, 1) for data in first] + [(late, 2 * count + 1)]
 
 
 def run_malformed():
@@ -343,7 +394,7 @@ def in_pieces(name, data, sizes):
     for size in sizes:
         run.stdin.write(data[at : at + size])
         run.stdin.flush()
-        time.sleep(0.05)
+        time.sleep(PAUSE)
         at += size
     return run.communicate(data[at:])[0]
 
@@ -407,10 +458,10 @@ def show_counts(kind, counts):
     return len(missing)
 
 
-def asked(count=20_000):
+def asked(count=COUNT):
     """How many sheets a seed gives, and the seeds, as the command's words say."""
     numbers = [int(word) for word in sys.argv[1:]]
-    return (numbers or [count])[0], numbers[1:] or range(1, 7)
+    return (numbers or [count])[0], numbers[1:] or SEEDS
 
 
 def conclude(kind, counts, runs):

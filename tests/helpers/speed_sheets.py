@@ -1,24 +1,22 @@
 """The sheets that tests/speed measures, the same ones in each run. In lines, blanks stand for tabs."""
 import itertools
 
-from helpers.replaying import CLAUSE, ORACLE, SHEET_BYTES, bundle_of, frames, judged_events, output
+from helpers.definitions import SIZES
+from helpers.replaying import CLAUSE, NO_LINES_END, ORACLE, SHEET_BYTES, bundle_of, generated, judged_events
 
 SMALL = 2_000  # small sheets
 SMALL_LINES = range(10, 41)
 SEED = 5
 CLAUSES = 12_000  # generated, to have enough that are small and accepted
-VARIABLES = 64
-USES = 16  # of a variable
-BRANCHES = 16  # open at a time
-MOST = 65_535  # the highest count of occurrences
-STEPS = 256  # of a check sheet
-INSTRUCTIONS = 4  # of a step
-REGISTERS = 63
+VARIABLES, USES = SIZES.VARIABLES, SIZES.USES
+BRANCHES = SIZES.OPEN_BRANCHES
+MOST = SIZES.LAST_COUNT  # occurrences
+STEPS, INSTRUCTIONS = SIZES.STEPS, SIZES.INSTRUCTIONS
+REGISTERS = SIZES.LAST_REGISTER
 SLOW = 100  # lines of the slowest event: the Rust takes seconds for a full sheet of them
 RECORDS = ("temp", "perm")
-PRINTING = 29_000  # bytes of a clause of `anon` that prints more than 65,536
+PRINTING = 29_000  # bytes of a clause of `anon` that prints more than a sheet has
 UNKNOWN = b"\n"  # a line that is refused
-NO_LINES_END = b"end\t1\t0\n"  # the answer to a clause without lines
 
 
 def text(lines):
@@ -46,8 +44,7 @@ def shorter(sheet, size):
 
 def clauses():
     """Accepted clauses of the generator."""
-    words = [ORACLE + "/generate", "--seed", str(SEED), "--count", str(CLAUSES), "--clauses"]
-    sheets = frames(output(words))
+    sheets = generated(ORACLE, SEED, CLAUSES, "--clauses")
     return [sheet for sheet, answer in zip(sheets, judged_events(sheets), strict=True) if answer[:3] != b"no\t"]
 
 
@@ -171,17 +168,17 @@ def others():
     several = " ".join(str(v) for v in range(REGISTERS))
     return {
         "sets, 4 variables": filled([f"temp l1 {MOST} {uses(0, ['l1'] * 3)}"] * 4, ["sets"]),
-        "sets, 64 variables": text(restricting(["l1"], ["l1"]) + ["sets"] * SLOW),
+        f"sets, {VARIABLES} variables": text(restricting(["l1"], ["l1"]) + ["sets"] * SLOW),
         "head, 3 arguments": filled([f"temp l1 {MOST} -"] * 2, ["head 0 - 1"]),
-        "head, 63 arguments": filled([f"temp l1 {MOST} -"] * REGISTERS, ["head " + several]),
+        f"head, {REGISTERS} arguments": filled([f"temp l1 {MOST} -"] * REGISTERS, ["head " + several]),
         "args": filled([], ["args 7"]),
         "give": filled([], [*numbered("give {}", range(1, REGISTERS + 1)), "clearfree"]),
         "tail": filled([], ["tail 1", "tail 0"]),
-        "next": filled([], [*["next"] * 63, "args 0"]),
-        "open": filled([], [*["open 4 2 3"] * 16, "close 16"]),
+        "next": filled([], [*["next"] * REGISTERS, "args 0"]),
+        "open": filled([], [*["open 4 2 3"] * BRANCHES, f"close {BRANCHES}"]),
         "arm": filled(["open 4 2 3"], ["arm 5 6"]),
         "take, nothing marked": filled(["open 4 2 3"], ["take"]),
-        "close, 63 variables": filled([f"perm {MOST}"] * REGISTERS + ["open 4 2 3"], ["close 0 " + several]),
+        f"close, {REGISTERS} variables": filled([f"perm {MOST}"] * REGISTERS + ["open 4 2 3"], ["close 0 " + several]),
         "reset": filled([], ["reset"]),
         "contents": filled([], ["contents"]),
         "clearfree": filled([], ["clearfree"]),
@@ -253,10 +250,10 @@ def slow_events():
         "sets, a chunk each": filled(restricting(chunks, chunks), ["sets"]),
         "sets, all contexts": filled(restricting(["l1", "l2", "m1"], ["l1", "m1", "l2", "h", "m2"]), ["sets"]),
         "var, evacuating": filled(restricting(["l1"], ["l1"]), [*moved, *numbered("var q s l1 {}", reversed(half))]),
-        "var, in 16 branches": filled([*permanent, *branches], numbered("var q d l1 {}", every)),
-        "take, in 16 branches": filled([*permanent, *branches], [*numbered("var q d l1 {}", third), *["take"] * len(third)]),
-        "close, of 16 branches": filled(permanent, [*branches, f"close {BRANCHES} {several}"]),
-        "arm, in 16 branches": filled(branches, ["arm 5 6"]),
+        f"var, in {BRANCHES} branches": filled([*permanent, *branches], numbered("var q d l1 {}", every)),
+        f"take, in {BRANCHES} branches": filled([*permanent, *branches], [*numbered("var q d l1 {}", third), *["take"] * len(third)]),
+        f"close, of {BRANCHES} branches": filled(permanent, [*branches, f"close {BRANCHES} {several}"]),
+        f"arm, in {BRANCHES} branches": filled(branches, ["arm 5 6"]),
         "anon, registers full": filled([], [*["anon q d l1"] * (REGISTERS - 1), "contents", "args 0"]),
         "nonvar, registers full": filled([], [*["nonvar q d l1 0"] * (REGISTERS - 1), "contents", "args 0"]),
     }
@@ -290,5 +287,5 @@ def slow_bundles(sheets):
         "sets, one clause": [clause_part(slow)],
         "sets, two clauses": [clause_part(slow, half)] * 2,
         "sets, refused at its end": [clause_part(slow, SHEET_BYTES - len(UNKNOWN)) + UNKNOWN],
-        "sets, in an answer longer than 65,536 bytes": [long, clause_part(slow, SHEET_BYTES - PRINTING)],
+        f"sets, in an answer longer than {SHEET_BYTES:,} bytes": [long, clause_part(slow, SHEET_BYTES - PRINTING)],
     }
