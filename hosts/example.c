@@ -11,6 +11,8 @@
 
 #include "fenomirask.h"
 
+enum { LINE_WEIGHT = 16 }; /* of the header: a refusal is -(16 * line + its number) */
+
 static const char *const refusals[] = {
     "", /* there is no refusal 0 */
     "form: the line's word is unknown, it has too many or too few fields or one that is malformed, or its LF is missing",
@@ -43,7 +45,7 @@ static int64_t lines(const uint8_t *sheet, size_t sheet_bytes, uint8_t *out, siz
         line++;
         answer = fenomirask_event(&state, sheet + at, line_bytes, out + written, out_bytes - written);
         if (FENOMIRASK_REFUSED(answer))
-            return FENOMIRASK_LINE(answer) == 1 ? -(int64_t)(16 * line) - FENOMIRASK_REFUSAL(answer) : answer;
+            return FENOMIRASK_LINE(answer) == 1 ? -(int64_t)(LINE_WEIGHT * line) - FENOMIRASK_REFUSAL(answer) : answer;
         written += (size_t)answer;
         at += line_bytes;
     }

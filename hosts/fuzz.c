@@ -124,7 +124,7 @@ static void hold_lines(const Call *whole, size_t room)
         call.bytes = feed == NULL ? left : (size_t)(feed + 1 - call.sheet);
         int spoils = call.bytes == SPOIL_BYTES && call.sheet[0] == 0;
         if (spoils)
-            memcpy((uint32_t *)&call.state + (call.sheet[1] + 256 * call.sheet[2]) % NUMBERS, call.sheet + 3, sizeof(uint32_t));
+            memcpy((uint32_t *)&call.state + (call.sheet[1] | call.sheet[2] << 8) % NUMBERS, call.sheet + 3, sizeof(uint32_t));
         call = held(call, room % (FENOMIRASK_EVENT_ROOM + 1));
         valid = spoils ? call.number != INVALID : valid;
         HOLD(valid ? call.number >= 0 || FENOMIRASK_LINE(call.number) > 0 : call.number == INVALID);

@@ -15,8 +15,8 @@
 #include "fenomirask.h"
 
 enum {
-    MOST_BYTES = 1 << 20, /* of a sheet that is read, and room for every answer */
-    ROOM = 65536          /* the room that the judge lends for an answer */
+    MOST_BYTES = 1 << 20,         /* of a sheet that is read, and room for every answer */
+    ROOM = FENOMIRASK_SHEET_BYTES /* the room that the judge lends for an answer */
 };
 
 /* The codes of a state, as the header has them in words. */

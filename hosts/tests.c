@@ -1226,7 +1226,7 @@ static void long_bundle_answers(void)
 
     bytes = repeat(bundle, opening, ends);
     text_bytes = repeat(text, NO_LINES_END, ends);
-    count(text_bytes <= ROOM, "an answer's length", f->word, 0, (int64_t)text_bytes, ROOM);
+    count(text_bytes == ROOM, "an answer's length", f->word, 0, (int64_t)text_bytes, ROOM);
     expect_text("as many empty clauses as have room", f, bundle, bytes, LARGE_ROOM, text, text_bytes);
     bytes = repeat(bundle, opening, ends + 1);
     text_bytes = repeat(text, NO_LINES_END, ends + 1);

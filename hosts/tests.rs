@@ -29,6 +29,8 @@ const USE_WEIGHT: u64 = 256;
 const MIDDLE: u64 = 256;
 const LAST_GOAL: u64 = 512;
 
+/// Refusals are 1 to this: rule 4.9.
+const LAST_REFUSAL: usize = 9;
 const GUARD: usize = 64;
 /// The room for which a stream's answers hold.
 const ROOM: usize = SHEET_BYTES;
@@ -261,7 +263,7 @@ fn refusals(counts: &mut Counts) {
     }
     words.sort();
     words.dedup();
-    let last = Refusal::ALL.len();
+    let last = LAST_REFUSAL;
     counts.count(words.len() == last, || {
         "two refusals have the same words".to_string()
     });

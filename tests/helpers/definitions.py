@@ -14,7 +14,7 @@ import types
 
 ROOT = os.path.dirname(os.path.dirname(os.path.dirname(os.path.abspath(__file__))))
 CONSTANT = re.compile(r"^pub const (\w+): \w+ = ([\d_]+);$", re.MULTILINE)
-WORD = re.compile(r'bytes "([a-z_]+)"')
+WORD = re.compile(r'bytes "([^"]*)"')
 
 
 def read(*names):
@@ -41,8 +41,11 @@ def words_of(crate, file, name):
 
 
 def words(crate):
-    """The words of the lines that a crate reads."""
-    return words_of(crate, "Words.antt", "lineWords")
+    """The words of the lines that a crate reads: all that stand in the file of its table."""
+    found = words_of(crate, "Words.antt", "lineWords")
+    if len(found) != source(crate, "specs", "Words.antt").count('bytes "'):
+        raise ValueError(f"{crate}: a word beside its table")
+    return found
 
 
 def instruction_words():
@@ -54,8 +57,12 @@ def instruction_words():
 
 
 def constants(crate):
-    """The constants of a crate that are numbers, by name."""
-    return {name: int(number) for name, number in CONSTANT.findall(source(crate, "src", "lib.rt"))}
+    """The constants of a crate by name, each a plain number."""
+    text = source(crate, "src", "lib.rt")
+    found = CONSTANT.findall(text)
+    if len(found) != text.count("pub const "):
+        raise ValueError(f"{crate}: a constant that is no plain number")
+    return {name: int(number) for name, number in found}
 
 
 SIZES = types.SimpleNamespace(**constants("sizes"))

@@ -251,7 +251,9 @@ def slow_events():
         "sets, all contexts": filled(restricting(["l1", "l2", "m1"], ["l1", "m1", "l2", "h", "m2"]), ["sets"]),
         "var, evacuating": filled(restricting(["l1"], ["l1"]), [*moved, *numbered("var q s l1 {}", reversed(half))]),
         f"var, in {BRANCHES} branches": filled([*permanent, *branches], numbered("var q d l1 {}", every)),
-        f"take, in {BRANCHES} branches": filled([*permanent, *branches], [*numbered("var q d l1 {}", third), *["take"] * len(third)]),
+        f"take, in {BRANCHES} branches": filled(
+            [*permanent, *branches], [*numbered("var q d l1 {}", third), *["take"] * len(third)]
+        ),
         f"close, of {BRANCHES} branches": filled(permanent, [*branches, f"close {BRANCHES} {several}"]),
         f"arm, in {BRANCHES} branches": filled(branches, ["arm 5 6"]),
         "anon, registers full": filled([], [*["anon q d l1"] * (REGISTERS - 1), "contents", "args 0"]),

@@ -27,6 +27,7 @@ CRATES = os.path.join(ROOT, "crates")
 ENTRIES = os.path.join(ROOT, "tests", "wrong")
 RUN_RESULTS = os.path.join(ROOT, "target", "wrong_runs")
 INSTANCES = os.path.join(ROOT, "tests", "wrong_laws")
+MUST_FAIL = "must-fail edit"  # what refuses a wrong answer that the gate tries
 ENOUGH = 2  # wrong answers of a public function
 CUT = 240  # characters of what the prover says
 NAMING = 2  # lines of an entry that name it in a failure
@@ -323,7 +324,7 @@ def held(answer, text):
         raise Failure(f"no public function: {answer.function}")
     if answer.must_fail:
         answer.pairs = gate_edit(answer)
-        answer.refused = f"must-fail edit `{answer.must_fail}`"
+        answer.refused = f"{MUST_FAIL} `{answer.must_fail}`"
     if not answer.says or bare(changed(text, answer)) == bare(text):
         raise Failure("changes or says nothing")
     return answer

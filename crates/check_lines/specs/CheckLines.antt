@@ -7,10 +7,10 @@ use Rattle.words.specs.Words.{same}
 use Rattle.check_lines.specs.declared.Line.{Line}
 use Rattle.check_lines.specs.declared.Line.the-variants.{Malformed}
 use Rattle.check_lines.specs.Behind.{Behind}
-use Rattle.check_lines.specs.Words.{Row, lineWords}
+use Rattle.check_lines.specs.Words.{WordRow, lineWords}
 
 -- by the row of the word; a word that has none makes no line
-unfoldable pub saidAmong : List Row → List ℕ → Behind
+unfoldable pub saidAmong : List WordRow → List ℕ → Behind
 saidAmong [] word fields = Malformed
 saidAmong ((known, behind) ∷ rows) word fields = if same word known then behind fields else saidAmong rows word fields
 

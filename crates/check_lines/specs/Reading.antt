@@ -20,11 +20,11 @@ use Rattle.check_lines.specs.declared.Field.the-variants.{Number as ofNu
 use Rattle.check_lines.specs.declared.Line.{Line}
 use Rattle.check_lines.specs.declared.Line.the-variants.{Malformed, Says}
 use Rattle.check_lines.specs.Behind.{Behind, held}
-use Rattle.check_lines.specs.Words.{Row, lineWords}
+use Rattle.check_lines.specs.Words.{WordRow, lineWords}
 
 -- ---- The number of a word
 
-abbrev pub wordsOf : List Row → List (List ℕ)
+abbrev pub wordsOf : List WordRow → List (List ℕ)
 wordsOf [] = []
 wordsOf ((known, behind) ∷ rows) = known ∷ wordsOf rows
 

@@ -27,7 +27,7 @@ use Rattle.check_lines.specs.declared.Field.the-variants.{Number as ofNu
 use Rattle.check_lines.specs.declared.Line.{Line}
 use Rattle.check_lines.specs.declared.Line.the-variants.{Malformed, Says}
 use Rattle.check_lines.specs.Behind.{Behind, noMore, held, aNumber, aPlace, slotOnly, alone, variable, argumentAndVariable, placeAlone, placeAndArgument, slotAndArgument}
-use Rattle.check_lines.specs.Words.{Row, lineWords}
+use Rattle.check_lines.specs.Words.{WordRow, lineWords}
 use Rattle.check_lines.specs.CheckLines.{saidAmong}
 use Rattle.check_lines.specs.Reading.{wordsOf, wordCode, byItself, inRegister, inSlot, fieldOf, noField, deepStep, argumentStep, unsafeLine, argumentInstruction, placeInstruction, byField, lastField, byFields, saidBy}
 
@@ -190,7 +190,7 @@ unsafe-said = place-said _ _ _ unsafe-last
 -- ---- The table, row by row
 
 -- from a number on: the number of each row says what the row says, and a number behind the last row nothing
-abbrev pub SaidFrom : ℕ → List Row → Type 0
+abbrev pub SaidFrom : ℕ → List WordRow → Type 0
 SaidFrom first [] = (code : ℕ) → first ≤ code → Agree (saidBy code) none
 SaidFrom first ((word, behind) ∷ rows) = Agree (saidBy first) behind × SaidFrom (suc first) rows
 
@@ -232,7 +232,7 @@ unfolding saidBy noField deepStep argumentStep argumentInstruction placeInstruct
 zero-said = none-said
 
 among-said :
-    (first : ℕ) (rows : List Row) → SaidFrom first rows → (word : List ℕ)
+    (first : ℕ) (rows : List WordRow) → SaidFrom first rows → (word : List ℕ)
     → Agree (saidBy (codeAmong first (wordsOf rows) word)) (saidAmong rows word)
 unfolding codeAmong saidAmong
 among-said first [] said word fields = zero-said fields

@@ -7,11 +7,11 @@ use Rattle.steps.specs.declared.Step.the-variants.{Head, HeadDeep, Goal, GoalDe
 use Rattle.check_lines.specs.Behind.{Behind, alone, variable, argumentAndVariable, placeAlone, placeAndArgument, slotAndArgument}
 
 -- a word, and what the fields behind it say
-abbrev pub Row : Type 0
-Row = List ℕ × Behind
+abbrev pub WordRow : Type 0
+WordRow = List ℕ × Behind
 
--- a word's number is its place here, from 1
-abbrev pub lineWords : List Row
+-- the code numbers the words from 1 in this order
+abbrev pub lineWords : List WordRow
 lineWords =
     (bytes "call", alone Call)
     ∷ (bytes "hd", variable HeadDeep)

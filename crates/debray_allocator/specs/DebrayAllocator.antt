@@ -78,8 +78,8 @@ withCounters s acted =
 -- ---- The state with the tables that an event may change
 
 -- the tables in which a record has its row
-abbrev pub putRows : Rows → State → State
-putRows t s = putRecords (t .records) (putUseCounts (t .useCounts) (putNoUse (t .noUse) (putConflict (t .conflict) s)))
+abbrev pub putRecordTables : Rows → State → State
+putRecordTables t s = putRecords (t .records) (putUseCounts (t .useCounts) (putNoUse (t .noUse) (putConflict (t .conflict) s)))
 
 abbrev pub putBranches : List ℕ → List ℕ → State → State
 putBranches rows sets s = putBranchRows rows (putBranchSets sets s)
@@ -92,10 +92,10 @@ module _ (s : State) where
   onlyCounters c = withCounters s (plainly c)
 
   abbrev pub withRecording : Recording → Answer
-  withRecording r = withCounters (putRows (r .tables) s) (byRelease (r .released))
+  withRecording r = withCounters (putRecordTables (r .tables) s) (byRelease (r .released))
 
   abbrev pub withTempRecording : TempRecording → Answer
-  withTempRecording r = withCounters (putRows (r .tables) (putUseSets (r .useSets) s)) (byRelease (r .released))
+  withTempRecording r = withCounters (putRecordTables (r .tables) (putUseSets (r .useSets) s)) (byRelease (r .released))
 
   abbrev pub withRestricting : Restricting → Answer
   withRestricting r = withCounters (putNoUse (r .noUse) (putConflict (r .conflict) s)) (plainly (s .counters))

@@ -19,11 +19,11 @@ wordAmong (word ∷ words) field = if same field (word .spelled) then word else 
 -- rule 2.2: a line is its fields, of which the first is its word
 unfoldable pub fieldsSay : List (List ℕ) → Line
 fieldsSay [] = Malformed
-fieldsSay (word ∷ fields) = wordAmong lineWords word .says fields
+fieldsSay (field ∷ fields) = wordAmong lineWords field .says fields
 
 unfoldable pub fieldsList : List (List ℕ) → List ℕ
 fieldsList [] = []
-fieldsList (word ∷ fields) = wordAmong lineWords word .entries fields
+fieldsList (field ∷ fields) = wordAmong lineWords field .entries fields
 
 unfoldable pub lineSays : List ℕ → Line
 lineSays line = fieldsSay (split tab line)

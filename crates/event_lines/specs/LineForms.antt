@@ -26,7 +26,7 @@ use Rattle.event_fields.specs.EventFields.{targetOf, levelOf, contextOf, entryO
 use Rattle.event_lines.specs.declared.Line.{Line}
 use Rattle.event_lines.specs.declared.Line.the-variants.{Malformed, Says}
 
--- an A takes what the fields hold, one after the other, and is then an event: what they say, and the entries of their list
+-- how the fields behind a word are read: what they say, an A making the event of what they hold; and the entries of their list
 pub record Form (A : Type 0) : Type 0 where
   pub says : A → List (List ℕ) → Line
   pub entries : List (List ℕ) → List ℕ
@@ -88,11 +88,11 @@ isEntry noNumber = false
 
 -- rule 4.13: whether the list, taken whole, has its form
 unfoldable pub allEntries : Entries → List (List ℕ) → Bool
-allEntries entries [] = true
-allEntries entries (part ∷ parts) = isEntry (entryOf entries part) && allEntries entries parts
+allEntries kind [] = true
+allEntries kind (part ∷ parts) = isEntry (entryOf kind part) && allEntries kind parts
 
 unfoldable pub listSays : Entries → Event → List (List ℕ) → Line
-listSays entries event parts = if allEntries entries parts then Says event (length parts) else Malformed
+listSays kind event parts = if allEntries kind parts then Says event (length parts) else Malformed
 
 abbrev pub inFrontOf : Number → List ℕ → List ℕ
 inFrontOf (Of n) ns = n ∷ ns
@@ -100,12 +100,12 @@ inFrontOf noNumber ns = []
 
 -- the entries up to the first that has no form
 unfoldable pub leading : Entries → List (List ℕ) → List ℕ
-leading entries [] = []
-leading entries (part ∷ parts) = inFrontOf (entryOf entries part) (leading entries parts)
+leading kind [] = []
+leading kind (part ∷ parts) = inFrontOf (entryOf kind part) (leading kind parts)
 
 -- a field for each entry
 abbrev pub list : Entries → Form Event
-list entries = record { says = listSays entries; entries = leading entries }
+list kind = record { says = listSays kind; entries = leading kind }
 
 abbrev pub comma : ℕ
 comma = byte ","

@@ -39,7 +39,7 @@ use Rattle.event_lines.specs.declared.Line.the-variants.{Malformed, Says
 use Rattle.event_lines.specs.declared.Counted.{Counted}
 use Rattle.event_lines.specs.declared.Counted.the-variants.{Of as ofCount, Malformed as noCount}
 use Rattle.event_lines.specs.LineForms.{Form, endSays, fieldSays, ifNumber, ifTarget, ifLevel, ifContext, number, target, level, context, allEntries, listSays, leading, comma, usesIn, usesSay, usesList}
-use Rattle.event_lines.specs.Reading.{oneNumber, paired, twoNumbers, tripled, threeNumbers, saidAmong, bareSaid, bareLine, withOne, withTwo, withThree, markOf, marked, markLine, counted, usesCount, recorded, tempLine, tempList, closed, closeLine, closeList, listLine, saidBy, entriesBy}
+use Rattle.event_lines.specs.Reading.{oneNumber, paired, twoNumbers, tripled, threeNumbers, eventAmong, bareSaid, bareLine, withOne, withTwo, withThree, markOf, marked, markLine, counted, usesCount, recorded, tempLine, tempList, closed, closeLine, closeList, listLine, saidBy, entriesBy}
 
 -- the next field, and what is left behind it
 abbrev pub next : ℕ → List ℕ → List ℕ
@@ -324,7 +324,7 @@ put-more list at n ns put = ap (λ l. printed l (at + 1) ns) put ∙ put-next li
 -- ---- All numbers of words
 
 pub said-unknown : (code : ℕ) (fields : List (List ℕ)) → code ≡ 0 → saidBy code fields ≡ Malformed
-unfolding saidBy bareLine saidAmong
+unfolding saidBy bareLine eventAmong
 said-unknown code [] h = rw h refl
 said-unknown code (field ∷ fields) h = rw h refl
 

@@ -86,26 +86,26 @@ threeNumbers (field ∷ fields) = tripled (numberOf field) (twoNumbers fields)
 -- ---- Words that stand alone, and words with numbers
 
 -- what a number says among events that are numbered from `first` on; nothing where it is none of theirs
-unfoldable pub saidAmong : ℕ → List Event → ℕ → Line
-saidAmong first [] code = Malformed
-saidAmong first (event ∷ events) code = if eqb code first then Says event 0 else saidAmong (suc first) events code
+unfoldable pub eventAmong : ℕ → List Event → ℕ → Line
+eventAmong first [] code = Malformed
+eventAmong first (event ∷ events) code = if eqb code first then Says event 0 else eventAmong (suc first) events code
 
 abbrev pub bareSaid : ℕ → Line
-bareSaid code = saidAmong 1 (Sets ∷ Next ∷ Take ∷ Reset ∷ Contents ∷ ClearFree ∷ []) code
+bareSaid code = eventAmong 1 (Sets ∷ Next ∷ Take ∷ Reset ∷ Contents ∷ ClearFree ∷ []) code
 
 unfoldable pub bareLine : ℕ → List (List ℕ) → Line
 bareLine code [] = bareSaid code
 bareLine code (field ∷ fields) = Malformed
 
 abbrev pub oneSaid : ℕ → ℕ → Line
-oneSaid code n = saidAmong 7 (Perm n ∷ Args n ∷ Incr n ∷ Safe n ∷ Give n ∷ Tail n ∷ []) code
+oneSaid code n = eventAmong 7 (Perm n ∷ Args n ∷ Incr n ∷ Safe n ∷ Give n ∷ Tail n ∷ []) code
 
 abbrev pub withOne : ℕ → Number → Line
 withOne code (Of n) = oneSaid code n
 withOne code noNumber = Malformed
 
 abbrev pub twoSaid : ℕ → ℕ → ℕ → Line
-twoSaid code a b = saidAmong 13 (Cut a b ∷ Free a b ∷ Arm a b ∷ []) code
+twoSaid code a b = eventAmong 13 (Cut a b ∷ Free a b ∷ Arm a b ∷ []) code
 
 abbrev pub withTwo : ℕ → TwoNumbers → Line
 withTwo code (ofTwo a b) = twoSaid code a b

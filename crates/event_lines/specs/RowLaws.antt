@@ -24,7 +24,7 @@ use Rattle.event_lines.specs.declared.TwoNumbers.the-variants.{Of as ofT
 use Rattle.event_lines.specs.LineForms.{Form, endSays, end, fieldSays, ifNumber, number, target, level, context}
 use Rattle.event_lines.specs.Words.{Word, lineWords}
 use Rattle.event_lines.specs.EventLines.{fieldsSay, fieldsList}
-use Rattle.event_lines.specs.Reading.{wordCode, wordFrom, wordAt, oneNumber, paired, twoNumbers, tripled, threeNumbers, saidAmong, bareSaid, bareLine, withOne, withTwo, withThree, varLine, nonVarLine, markOf, markLine, headed, listLine, saidBy, entriesBy}
+use Rattle.event_lines.specs.Reading.{wordCode, wordFrom, wordAt, oneNumber, paired, twoNumbers, tripled, threeNumbers, eventAmong, bareSaid, bareLine, withOne, withTwo, withThree, varLine, nonVarLine, markOf, markLine, headed, listLine, saidBy, entriesBy}
 use Rattle.event_lines.specs.ReadLaws.{counted-read, said-unknown, said-past, no-entries}
 use Rattle.event_lines.specs.WordsLaws.{Each, _&_, from-each, word-at}
 
@@ -97,7 +97,7 @@ no-list : (fields : List (List ℕ)) → _≡_ {A = List ℕ} [] []
 no-list fields = refl
 
 rows-read : Each Read 1 lineWords
-unfolding lineWords saidBy entriesBy saidAmong markOf listLine
+unfolding lineWords saidBy entriesBy eventAmong markOf listLine
 rows-read =
     (bare-read 1 Sets refl, no-list)
     & (bare-read 2 Next refl, no-list)

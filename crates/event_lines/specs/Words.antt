@@ -17,7 +17,7 @@ abbrev pub word : {A : Type 0} → List ℕ → Form A → A → Word
 word spelled form event = record { spelled = spelled; says = form .says event; entries = form .entries }
 
 -- a word, the fields behind it, and its event; the code numbers the words from 1 in this order
--- rules 5.14, 5.16: `cut` names its variable first, `free` its chunk; rule 5.13: the target is not kept
+-- rules 5.14, 5.16: `cut` names its variable first, `free` its chunk; rules 13.3, 13.4: nothing of `nonvar` asks for its target
 unfoldable pub lineWords : List Word
 lineWords =
     word (bytes "sets") end Sets

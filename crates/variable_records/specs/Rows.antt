@@ -125,7 +125,7 @@ rowOf variable = counted (variable .«num_occurrences») (variable .«running_co
 abbrev pub rowCells : ℕ
 rowCells = 16
 
--- as many of them hold numbers
+-- so many of them are a record's own, the others mean nothing
 abbrev pub filledCells : ℕ
 filledCells = 14
 

@@ -1,4 +1,4 @@
--- A field is a word exactly if it has the word's bytes, rule 2.4; words have numbers.
+-- A field is a word exactly if it has the word's bytes, rule 2.4; and the numbers by which code tells words apart.
 use Prim.Native.Nat.{ℕ, suc}
 use mathlib.Core.List.{List, [], _∷_}
 use mathlib.Core.Bool.{Bool, true, false, _&&_}

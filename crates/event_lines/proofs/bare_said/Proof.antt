@@ -1,35 +1,35 @@
 -- `event_lines::bare_said`: each way of the code is a case of the definition. Assumes nothing.
 use borrow.Author.Tests.{ne-eqb}
-use Rattle.event_lines.specs.Reading.{saidAmong}
+use Rattle.event_lines.specs.Reading.{eventAmong}
 use Rattle.event_lines.proofs.bare_said.Statement.{statement}
 use Rattle.event_lines.proofs.bare_said.Tie as tie
 
 returns : tie.Need-returns
-unfolding saidAmong
+unfolding eventAmong
 returns c = simp (c .match .keys1)
 
 returns-2 : tie.Need-returns-2
-unfolding saidAmong
+unfolding eventAmong
 returns-2 c = simp (c .match .keys2)
 
 returns-3 : tie.Need-returns-3
-unfolding saidAmong
+unfolding eventAmong
 returns-3 c = simp (c .match .keys3)
 
 returns-4 : tie.Need-returns-4
-unfolding saidAmong
+unfolding eventAmong
 returns-4 c = simp (c .match .keys4)
 
 returns-5 : tie.Need-returns-5
-unfolding saidAmong
+unfolding eventAmong
 returns-5 c = simp (c .match .keys5)
 
 returns-6 : tie.Need-returns-6
-unfolding saidAmong
+unfolding eventAmong
 returns-6 c = simp (c .match .keys6)
 
 returns-7 : tie.Need-returns-7
-unfolding saidAmong
+unfolding eventAmong
 returns-7 c =
     simp (
       ne-eqb _ _ (c .match .rest .1),
