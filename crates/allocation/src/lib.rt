@@ -25,7 +25,7 @@ use variable_records::{PermVarAllocation, Records, VarAlloc, VarSafetyStatus};
 pub type TempFreeList = [u32; FREED_REGISTERS];
 
 // A freed register that is not in use, and how many freed registers are left.
-#[derive(Drop)]
+#[derive(Clone, Copy)]
 pub struct Popped {
     pub left: u32,
     pub chosen: Chosen,
@@ -53,7 +53,7 @@ pub fn pop_freed(counters: Counters, list: &TempFreeList) -> Popped
 }
 
 // The counters afterwards with the register, or none.
-#[derive(Drop)]
+#[derive(Clone, Copy)]
 pub struct NonVar {
     pub counters: Counters,
     pub chosen: Chosen,
@@ -149,7 +149,7 @@ fn take_slot(records: &mut Records, owner: u32)
 }
 
 // The counters afterwards with the place, or a refusal.
-#[derive(Drop)]
+#[derive(Clone, Copy)]
 pub struct Placed {
     pub counters: Counters,
     pub place: u32,

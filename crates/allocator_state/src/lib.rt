@@ -12,7 +12,7 @@ use sizes::LAST_COUNTER;
 
 // The numbers that are no table. The Rust's fields keep their names; the counts say how much of a table counts.
 #[repr(C)]
-#[derive(Drop)]
+#[derive(Clone, Copy)]
 pub struct Counters {
     pub arg_c: u32,
     pub temp_lb: u32,

@@ -7,7 +7,7 @@ ghost use Rattle.answered.specs.Answered.{refusal_text};
 use split::{LINE_FEED, TAB};
 
 // The count of bytes written, or a line and a refusal; line 0 is the whole sheet.
-#[derive(Drop)]
+#[derive(Clone, Copy)]
 pub enum Answered {
     Written(usize),
     Refused(usize, u32),

@@ -16,7 +16,7 @@ pub const LONGEST: usize = 256;
 pub type Scratch = [u8; LONGEST];
 
 // The place after a text that was added, and the text's length, which counts also where the room has ended.
-#[derive(Drop)]
+#[derive(Clone, Copy)]
 pub struct Adding {
     pub place: usize,
     pub length: usize,

@@ -17,7 +17,7 @@ pub type BranchRows = [u32; OPEN_BRANCHES * NUMBERS_PER_BRANCH];
 
 pub type BranchSets = [u64; OPEN_BRANCHES * SETS_PER_BRANCH];
 
-#[derive(Drop)]
+#[derive(Clone, Copy)]
 pub struct BranchOccurrences {
     pub current_branch_num: Branch,
     pub num_branches: u32,

@@ -22,14 +22,14 @@ use sizes::{LAST_COUNT, OPEN_BRANCHES, VARIABLES};
 use variable_records::{PermVarAllocation, Records, VarAlloc};
 
 // The outcome of opening a branch: so many are open, or one too many would be.
-#[derive(Drop)]
+#[derive(Clone, Copy)]
 pub enum Opened {
     Open(u32),
     Full,
 }
 
 // The outcome of going on to the next arm.
-#[derive(Drop)]
+#[derive(Clone, Copy)]
 pub enum Advanced {
     NextArm,
     NoneToAdvance,
@@ -37,14 +37,14 @@ pub enum Advanced {
 }
 
 // The outcome of recording an occurrence.
-#[derive(Drop)]
+#[derive(Clone, Copy)]
 pub enum Recorded {
     Well,
     PastArms,
 }
 
 // The outcome of taking stock of an arm.
-#[derive(Drop)]
+#[derive(Clone, Copy)]
 pub enum Taken {
     Took,
     NoneToTake,
@@ -52,7 +52,7 @@ pub enum Taken {
 }
 
 // The outcome of closing branches: so many are left open, or why none was closed.
-#[derive(Drop)]
+#[derive(Clone, Copy)]
 pub enum Popped {
     Left(u32),
     TooDeep,
@@ -61,7 +61,7 @@ pub enum Popped {
 }
 
 // Whether a variable has to be guarded, as an argument and as a subterm.
-#[derive(Drop)]
+#[derive(Clone, Copy)]
 pub struct Guards {
     pub shallow: bool,
     pub deep: bool,

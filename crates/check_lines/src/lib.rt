@@ -33,14 +33,14 @@ use split::TAB;
 use steps::{CheckLine, Step};
 
 // What a line says.
-#[derive(Drop)]
+#[derive(Clone, Copy)]
 pub enum Line {
     Malformed,
     Says(CheckLine),
 }
 
 // What a field behind the word says.
-#[derive(Drop)]
+#[derive(Clone, Copy)]
 enum Field {
     Number(u32),
     Place(RegType),

@@ -30,7 +30,7 @@ use symbolic::{Counts, NO_NAME, PAIR_CELLS, PairCells, Places, Taken, Values};
 pub const VERDICT_BYTES: usize = 9;
 
 // The outcome of the lines: the first bad one and its refusal, or whether the instructions are right.
-#[derive(Drop)]
+#[derive(Clone, Copy)]
 enum Run {
     Refused(usize, u32),
     Decided(bool),

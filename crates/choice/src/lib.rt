@@ -9,7 +9,7 @@ use allocator_state::Counters;
 use bit_set::BitSet;
 use sizes::LAST_REGISTER;
 
-#[derive(Drop)]
+#[derive(Clone, Copy)]
 pub enum Chosen {
     Register(u32),
     NoRegister,

@@ -6,7 +6,7 @@ ghost use Rattle.code_deque.specs.CodeDeque.{pushed};
 
 use instructions::Instruction;
 
-#[derive(Drop)]
+#[derive(Clone, Copy)]
 pub enum CodeDeque {
     Empty,
     One(Instruction),

@@ -32,7 +32,7 @@ use variable_records::Records;
 
 // The whole state of a clause: numbers, and tables of numbers.
 #[repr(C)]
-#[derive(Drop)]
+#[derive(Clone, Copy)]
 pub struct State {
     pub counters: Counters,
     pub records: Records,
@@ -48,14 +48,14 @@ pub struct State {
 }
 
 // The place that a line of the answer tells, if the event has one.
-#[derive(Drop)]
+#[derive(Clone, Copy)]
 pub enum At {
     Nowhere,
     Place(RegType),
 }
 
 // The outcome of a line, beside the tables.
-#[derive(Drop)]
+#[derive(Clone, Copy)]
 pub struct Acted {
     pub counters: Counters,
     pub code: CodeDeque,
@@ -64,7 +64,7 @@ pub struct Acted {
 }
 
 // The outcome of a line: the state afterwards, the instructions and the place, or the refusal, 0 where there is none.
-#[derive(Drop)]
+#[derive(Clone, Copy)]
 pub struct Answer {
     pub state: State,
     pub code: CodeDeque,

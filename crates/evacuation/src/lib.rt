@@ -57,7 +57,7 @@ pub fn alloc_with_ca(
 }
 
 // What is to become of the variable in the argument's register.
-#[derive(Drop)]
+#[derive(Clone, Copy)]
 pub enum Hint {
     Stays,
     Moves(u32, u32),
@@ -96,7 +96,7 @@ pub fn alloc_in_last_goal_hint(
 }
 
 // How far an event has come: its counters and instructions, and its refusal, none as yet where it goes on.
-#[derive(Drop)]
+#[derive(Clone, Copy)]
 pub struct Reached {
     pub counters: Counters,
     pub code: CodeDeque,

@@ -28,7 +28,7 @@ use split::LINE_FEED;
 const SHORT_LINE: usize = 1_024;
 
 // The state after a call, and what the call is answered with.
-#[derive(Drop)]
+#[derive(Clone, Copy)]
 pub struct Called {
     pub state: State,
     pub answered: Answered,

@@ -34,19 +34,19 @@ const NO_SUCH_VARIABLE: u32 = NO_VARIABLE + 1;
 // In the place of a use: a register or a chunk that there is not.
 const NO_USE: u32 = 0;
 
-#[derive(Drop)]
+#[derive(Clone, Copy)]
 pub enum TargetField {
     Of(Target),
     Malformed,
 }
 
-#[derive(Drop)]
+#[derive(Clone, Copy)]
 pub enum LevelField {
     Of(Level),
     Malformed,
 }
 
-#[derive(Drop)]
+#[derive(Clone, Copy)]
 pub enum ContextField {
     Of(GenContext),
     Malformed,

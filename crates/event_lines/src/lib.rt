@@ -56,26 +56,26 @@ use targets::Target;
 const COMMA: u8 = b',';
 
 // What a line says, and how many entries its list has.
-#[derive(Drop)]
+#[derive(Clone, Copy)]
 pub enum Line {
     Malformed,
     Says(Event, usize),
 }
 
-#[derive(Drop)]
+#[derive(Clone, Copy)]
 enum TwoNumbers {
     Of(u32, u32),
     Malformed,
 }
 
-#[derive(Drop)]
+#[derive(Clone, Copy)]
 enum ThreeNumbers {
     Of(u32, u32, u32),
     Malformed,
 }
 
 // How many entries a list has.
-#[derive(Drop)]
+#[derive(Clone, Copy)]
 enum Counted {
     Of(usize),
     Malformed,

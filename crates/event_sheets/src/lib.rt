@@ -44,7 +44,7 @@ const SHORT_TEXT: usize = 8_192;
 
 // A run over the lines of a sheet: where it was refused and why, and the length of its text, which counts also where the
 // room has ended.
-#[derive(Drop)]
+#[derive(Clone, Copy)]
 pub struct Run {
     pub line: usize,
     pub refusal: u32,

@@ -28,7 +28,7 @@ pub const NO_VARIABLE: u32 = VARIABLES as u32;
 
 // A record or an event. The uses of `Temp`, the arguments of `Head` and the variables of `Close` are lent beside it, as a
 // list of numbers.
-#[derive(Drop)]
+#[derive(Clone, Copy)]
 pub enum Event {
     Temp(GenContext, u32),
     Perm(u32),
@@ -55,7 +55,7 @@ pub enum Event {
 }
 
 // What the entries of a list are.
-#[derive(Drop)]
+#[derive(Clone, Copy)]
 pub enum Entries {
     Uses,
     Arguments,

@@ -15,7 +15,7 @@ use answered::Answered;
 use debray_allocator::State;
 
 // The state after a call, and the number for the host.
-#[derive(Drop)]
+#[derive(Clone, Copy)]
 pub struct Stepped {
     pub state: State,
     pub number: i64,

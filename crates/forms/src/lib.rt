@@ -5,7 +5,7 @@ ghost use Rattle.std.specs.Prelude.{◌≡◌};
 ghost use Rattle.forms.specs.Forms.{chunk_num, has_as_subbranch};
 
 // The head, or a goal with its chunk: one in the middle of a chunk or the chunk's last.
-#[derive(Drop)]
+#[derive(Clone, Copy)]
 pub enum GenContext {
     Head,
     Mid(u32),
@@ -13,7 +13,7 @@ pub enum GenContext {
 }
 
 // The term itself, an argument of a head or goal, or a subterm of one.
-#[derive(Drop)]
+#[derive(Clone, Copy)]
 pub enum Level {
     Root,
     Shallow,
@@ -21,7 +21,7 @@ pub enum Level {
 }
 
 // A branch.
-#[derive(Drop)]
+#[derive(Clone, Copy)]
 pub struct Branch {
     pub start: u32,
     pub span: u32,

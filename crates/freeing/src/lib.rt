@@ -11,7 +11,7 @@ use sizes::FREED_SLOTS;
 use variable_records::{PermVarAllocation, Records, VarAlloc, VariableRecord};
 
 // The counters afterwards, or a refusal, 0 where there is none.
-#[derive(Drop)]
+#[derive(Clone, Copy)]
 pub struct Released {
     pub counters: Counters,
     pub refusal: u32,

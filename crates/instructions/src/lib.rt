@@ -12,7 +12,7 @@ ghost use Rattle.instructions.specs.Codes.{numbered, code_of, words, word_of};
 use registers::RegType;
 use split::{LINE_FEED, TAB};
 
-#[derive(Drop)]
+#[derive(Clone, Copy)]
 pub enum Instruction {
     GetVariable(RegType, u32),
     GetValue(RegType, u32),
@@ -28,7 +28,7 @@ pub enum Instruction {
 }
 
 // An instruction as its number, its place and its argument. Those from 5 to 10 have no argument, and 0 stands for it.
-#[derive(Drop)]
+#[derive(Clone, Copy)]
 pub struct Code {
     pub number: u32,
     pub place: RegType,

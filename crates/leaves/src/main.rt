@@ -12,7 +12,7 @@ use sizes::{LAST_REGISTER, SHEET_BYTES};
 use split::{LINE_FEED, TAB};
 
 // An answer so far: the place after it, and the numbers that are registers.
-#[derive(Drop)]
+#[derive(Clone, Copy)]
 struct Shown {
     at: usize,
     found: BitSet,

@@ -38,7 +38,7 @@ use temp_var_data::{UseCounts, UseSets};
 use variable_records::{PermVarAllocation, Records, VarAlloc};
 
 // What a line says of a mark of a variable.
-#[derive(Drop)]
+#[derive(Clone, Copy)]
 pub struct Mark {
     pub target: Target,
     pub level: Level,

@@ -23,14 +23,14 @@ use temp_var_data::{UseCounts, UseSets};
 use variable_records::Records;
 
 // How far an event has come, with the register that it chose.
-#[derive(Drop)]
+#[derive(Clone, Copy)]
 pub struct RegPlaced {
     pub reached: Reached,
     pub place: u32,
 }
 
 // How far a mark has come, with the place of what it marked.
-#[derive(Drop)]
+#[derive(Clone, Copy)]
 pub struct Marked {
     pub reached: Reached,
     pub place: RegType,

@@ -12,7 +12,7 @@ const ZERO: u8 = b'0';
 const NINE: u8 = b'9';
 
 // What a field says as a number.
-#[derive(Drop)]
+#[derive(Clone, Copy)]
 pub enum Number {
     Of(u32),
     Malformed,

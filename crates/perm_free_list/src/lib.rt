@@ -13,7 +13,7 @@ pub const ENTRY_CELLS: usize = 2;
 pub type PermFreeList = [u32; FREED_SLOTS * ENTRY_CELLS];
 
 // A chunk, and the variable whose slot was freed in it.
-#[derive(Drop)]
+#[derive(Clone, Copy)]
 pub struct FreedSlot {
     pub chunk: u32,
     pub variable: u32,
@@ -65,7 +65,7 @@ pub fn free_slot(records: &Records, v: u32) -> u32
 }
 
 // What a look at the queue finds: how many entries go, and the slot that is taken with its old owner, or 0 where none is.
-#[derive(Drop)]
+#[derive(Clone, Copy)]
 pub struct Looked {
     pub dropped: u32,
     pub slot: u32,

@@ -22,7 +22,7 @@ use targets::Target;
 use variable_records::{PermVarAllocation, VarAlloc, VarSafetyStatus, VariableRecord};
 
 // The record afterwards with the instruction, or that the original stops here.
-#[derive(Drop)]
+#[derive(Clone, Copy)]
 pub enum Valued {
     Value(VariableRecord, Instruction),
     Stopped,
@@ -139,7 +139,7 @@ pub fn subterm_to_value(
 }
 
 // What becomes of a variable that is met for the first time.
-#[derive(Drop)]
+#[derive(Clone, Copy)]
 pub enum MarkedSafe {
     // Its record afterwards.
     Safe(VariableRecord),

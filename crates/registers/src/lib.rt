@@ -6,7 +6,7 @@ ghost use Rattle.numbers.specs.Numbers.{decimal};
 ghost use Rattle.printing.specs.Printing.{Put};
 ghost use Rattle.registers.specs.Registers.{number_of_place, register_text};
 
-#[derive(Drop)]
+#[derive(Clone, Copy)]
 pub enum RegType {
     Temp(u32),
     Perm(u32),

@@ -20,7 +20,7 @@ const LEAD_BYTES: usize = 32;
 const UNTOUCHED: u8 = 255;
 
 // A kind of sheet.
-#[derive(Drop)]
+#[derive(Clone, Copy)]
 enum Kind {
     Events,
     Check,
@@ -28,14 +28,14 @@ enum Kind {
 }
 
 // The next byte of the input.
-#[derive(Drop)]
+#[derive(Clone, Copy)]
 enum Next {
     Byte(u8),
     End,
 }
 
 // What leads a sheet: its kind, the bytes of the sheet and of its answer.
-#[derive(Drop)]
+#[derive(Clone, Copy)]
 enum Lead {
     Sheet(Kind, u32, u32),
     End,
@@ -44,7 +44,7 @@ enum Lead {
 }
 
 // What comes of a sheet.
-#[derive(Drop)]
+#[derive(Clone, Copy)]
 enum Verdict {
     Same,
     Differs,

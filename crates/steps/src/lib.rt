@@ -44,7 +44,7 @@ pub const GOAL_STEP: u32 = 2;
 pub const CALL_STEP: u32 = 3;
 
 // A step line: argument k or a deep subterm is variable v, in the head or in a goal; or the goal is called.
-#[derive(Drop)]
+#[derive(Clone, Copy)]
 pub enum Step {
     Head(u32, u32),
     HeadDeep(u32),
@@ -54,7 +54,7 @@ pub enum Step {
 }
 
 // A step line, or an instruction under the last one.
-#[derive(Drop)]
+#[derive(Clone, Copy)]
 pub enum CheckLine {
     Begins(Step),
     Does(Instruction),
@@ -62,7 +62,7 @@ pub enum CheckLine {
 
 // What the lines so far say of the next one: how many step lines there are; the kind of the last one, how many instructions
 // stand under it, and whether one of them takes the step's number; and the arguments of the goal since the last `call`.
-#[derive(Drop)]
+#[derive(Clone, Copy)]
 pub struct Order {
     pub steps: u32,
     pub kind: u32,
@@ -72,7 +72,7 @@ pub struct Order {
 }
 
 // The lines' order with a line that is accepted, or as it was; and the line's refusal.
-#[derive(Drop)]
+#[derive(Clone, Copy)]
 pub struct Judged {
     pub order: Order,
     pub refusal: u32,

@@ -57,7 +57,7 @@ pub type Values = [u32; VARIABLES];
 pub type PairCells = [u32; PAIR_CELLS];
 
 // How many cells of each table of pairs count.
-#[derive(Drop)]
+#[derive(Clone, Copy)]
 pub struct Counts {
     pub demands: usize,
     pub made: usize,
@@ -68,14 +68,14 @@ pub struct Counts {
 }
 
 // The counts of what the instructions do.
-#[derive(Drop)]
+#[derive(Clone, Copy)]
 struct DoneCounts {
     pub demands: usize,
     pub made: usize,
 }
 
 // The counts of what the steps want.
-#[derive(Drop)]
+#[derive(Clone, Copy)]
 struct WantedCounts {
     pub wants: usize,
     pub due: usize,
@@ -83,7 +83,7 @@ struct WantedCounts {
 }
 
 // The outcome of a line, beside the tables.
-#[derive(Drop)]
+#[derive(Clone, Copy)]
 pub struct Taken {
     pub order: Order,
     pub counts: Counts,

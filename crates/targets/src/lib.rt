@@ -8,7 +8,7 @@ ghost use Rattle.targets.specs.Targets.{argument_to_variable, argument_to_value,
 use instructions::Instruction;
 use registers::RegType;
 
-#[derive(Drop)]
+#[derive(Clone, Copy)]
 pub enum Target {
     Fact,
     Query,

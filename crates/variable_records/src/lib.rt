@@ -38,7 +38,7 @@ pub type Records = [u32; TABLE_CELLS];
 
 // Whether a value in a variable may lie on the stack, so that handing it on has to be guarded: it may; not within the
 // branch that guarded it last; or nowhere.
-#[derive(Drop)]
+#[derive(Clone, Copy)]
 pub enum VarSafetyStatus {
     Needed,
     LocallyUnneeded(Branch),
@@ -46,7 +46,7 @@ pub enum VarSafetyStatus {
 }
 
 // A permanent variable's slot is given out, with its safety as an argument and as a subterm, or waits to be.
-#[derive(Drop)]
+#[derive(Clone, Copy)]
 pub enum PermVarAllocation {
     Done {
         shallow_safety: VarSafetyStatus,
@@ -55,7 +55,7 @@ pub enum PermVarAllocation {
     Pending,
 }
 
-#[derive(Drop)]
+#[derive(Clone, Copy)]
 pub enum VarAlloc {
     Temp {
         term_loc: GenContext,
@@ -66,7 +66,7 @@ pub enum VarAlloc {
     Perm(u32, PermVarAllocation),
 }
 
-#[derive(Drop)]
+#[derive(Clone, Copy)]
 pub struct VariableRecord {
     pub allocation: VarAlloc,
     pub num_occurrences: u32,
@@ -74,7 +74,7 @@ pub struct VariableRecord {
 }
 
 // A safety as numbers: its code, and the branch where it is local.
-#[derive(Drop)]
+#[derive(Clone, Copy)]
 pub struct SafetyRow {
     pub code: u32,
     pub start: u32,
@@ -82,7 +82,7 @@ pub struct SafetyRow {
 }
 
 // A record as numbers.
-#[derive(Drop)]
+#[derive(Clone, Copy)]
 pub struct Row {
     pub kind: u32,
     pub context: u32,
