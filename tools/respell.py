@@ -121,9 +121,11 @@ def renamings():
 def respelled_line(line, renamed, dashed):
     def one(match):
         token = match[0]
-        if not dashed and "-" in token:
+        new = renamed.get(token, token)
+        # a function of src/, and the module of its proof, keep their name
+        if new.endswith("_lem") and (not dashed or line.startswith("use ") and f".proofs.{token}." in line):
             return token
-        return renamed.get(token, token)
+        return token if not dashed and "-" in token else new
 
     # what the check itself names keeps its spelling
     kept = []

@@ -242,7 +242,7 @@ fn place_instruction(code: u32, place: RegType) -> Line
 // ---- All lines
 
 // The line of a word with one field.
-fn one_field_lem(code: u32, field: Field) -> Line
+fn one_field(code: u32, field: Field) -> Line
     ensures { result ≡ one_field code field }
 {
     match field {
@@ -253,7 +253,7 @@ fn one_field_lem(code: u32, field: Field) -> Line
 }
 
 // The line of a word with two fields, the second of which is a number.
-fn two_fields_lem(code: u32, first: Field, second: Number) -> Line
+fn two_fields(code: u32, first: Field, second: Number) -> Line
     ensures { result ≡ two_fields code first second }
 {
     match second {
@@ -276,12 +276,12 @@ fn line_of(code: u32, rest: &[u8]) -> Line
     let end = fields::end_of_field(rest, TAB);
     let first = field_of(fields::field(rest, end));
     if end == rest.len() {
-        return one_field_lem(code, first);
+        return one_field(code, first);
     }
     let behind = fields::rest_after(rest, end);
     let last = fields::end_of_field(behind, TAB);
     if last == behind.len() {
-        return two_fields_lem(code, first, numbers::read(fields::field(behind, last)));
+        return two_fields(code, first, numbers::read(fields::field(behind, last)));
     }
     Line::Malformed
 }

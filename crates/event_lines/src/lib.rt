@@ -286,7 +286,7 @@ fn with_one(code: u32, number: Number) -> Line
 }
 
 // What a word with two numbers says: `cut` v chunk, `free` chunk v, `arm` start span.
-fn two_said_lem(code: u32, a: u32, b: u32) -> Line
+fn two_said(code: u32, a: u32, b: u32) -> Line
     ensures { result ≡ two_said code a b }
 {
     match code {
@@ -302,7 +302,7 @@ fn with_two(code: u32, numbers: TwoNumbers) -> Line
     ensures { result ≡ with_two code numbers }
 {
     match numbers {
-        TwoNumbers::Of(a, b) => two_said_lem(code, a, b),
+        TwoNumbers::Of(a, b) => two_said(code, a, b),
         TwoNumbers::Malformed => Line::Malformed,
     }
 }

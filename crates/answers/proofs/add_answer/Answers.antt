@@ -1,0 +1,15 @@
+-- `answers::add_answer`: the text is put into the scratch, where it fits, and copied on from there. Assumes nothing.
+use borrow.Author.Rules.{rules}
+use Rattle.answers.specs.AnswersLaws.{answer_short, added}
+use Rattle.answers.proofs.add_answer.Goals as goal
+
+pub returns : goal.returns
+returns c =
+    let copied = c in
+    let printed = copied in
+    let a = printed.args in
+    added
+    (search (rules, answer_short a.code a.place))
+    printed.put_answer-length.ensures
+    copied.scratched.ensures
+    c.put_word-next.ensures

@@ -1,0 +1,7 @@
+-- `branch_events::arm`: the code is the definition. Assumes nothing.
+use Rattle.branch_events.specs.BranchEvents.{armed}
+use Rattle.branch_events.proofs.arm.Goals as goal
+
+pub returns : goal.returns
+unfolding armed
+returns c = let e = c.incr_current_branch-advanced.ensures in simp (← e.0, e.1.0, e.1.1, c.arm_released.ensures)

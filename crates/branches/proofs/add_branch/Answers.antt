@@ -1,0 +1,38 @@
+-- `branches::add_branch`: the tests of the code are those of the definitions. Assumes nothing.
+use mathlib.Core.Path.{◌≡◌, refl, sym, ◌∙◌}
+use borrow.Author.Tests.{eq-eqb, ne_eqb}
+use Rattle.branches.specs.declared.Taken.TheVariants.{Took}
+use Rattle.branches.specs.Branches.{taken, records_taken, rows_taken, sets_taken}
+use Rattle.branches.specs.BranchesLaws.{records_taken_lem, rows_taken_lem, sets_taken_lem}
+use Rattle.branches.proofs.add_branch.Goals as goal
+
+pub returns-then-open_branches-eq0 : goal.returns-then-open_branches-eq0
+unfolding taken records_taken rows_taken sets_taken
+returns-then-open_branches-eq0 c = simp (eq-eqb _ _ c.if-open_branches-eq0.true) (refl, (refl, (refl, refl)))
+
+pub returns-then-holds_temporary : goal.returns-then-holds_temporary
+unfolding taken records_taken rows_taken sets_taken
+returns-then-holds_temporary c =
+    let top = c.top_of-top.ensures in
+    let held = c.holds_temporary.ensures in
+    simp (ne_eqb _ _ c.if-open_branches-eq0.false, ← top, ← held, c.if-holds_temporary.true) (refl, (refl, (refl, refl)))
+
+pub returns : goal.returns
+unfolding taken
+returns c =
+    let a = c.args in
+    let top = c.top_of-top.ensures in
+    let held = c.holds_temporary.ensures in
+    let takes : taken a.records.now a.rows.now a.sets.now a.open-branches ≡ Took =
+    simp (ne_eqb _ _ c.if-open_branches-eq0.false, ← top, ← held, c.if-holds_temporary.false)
+    in
+    let safety = c.take_safety-taken.ensures in (
+      sym takes,
+      (
+        c.pend_members.ensures ∙ records_taken_lem _ _ _ _ _ _ takes top safety,
+        (
+          c.put_top.ensures.0 ∙ rows_taken_lem _ _ _ _ _ _ takes top safety,
+          c.put_top.ensures.1 ∙ sets_taken_lem _ _ _ _ _ _ takes top safety,
+        ),
+      ),
+    )

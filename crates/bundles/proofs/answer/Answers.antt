@@ -1,0 +1,31 @@
+-- `bundles::answer`: each way of the code is a case of the definition. Assumes nothing.
+use Prim.Native.Nat.{◌-◌}
+use mathlib.Core.Path.{◌≡◌, refl}
+use native.Mathlib.Omega.{arith}
+use borrow.Author.Rules.{rules}
+use Rattle.bundles.specs.BundlesLaws.{answer-before, answer-refused, answer_longer, answer_copied, answer-again}
+use Rattle.bundles.specs.RunningLaws.{bundle-begins}
+use Rattle.bundles.proofs.answer.Goals as goal
+
+pub returns-then-refusal-gt0 : goal.returns-then-refusal-gt0
+returns-then-refusal-gt0 c = answer-before _ _ c.refusal_before-refusal.ensures c.if-refusal-gt0.true
+
+pub run_clauses-run-requires : goal.run_clauses-run-requires
+run_clauses-run-requires c = let b = bundle-begins c.args.bundle.now (search (rules, c.refusal_before-refusal.ensures, c.if-refusal-gt0.false)) in (b.short, (b.ended, b.begun))
+
+pub returns-then-run-gt0 : goal.returns-then-run-gt0
+returns-then-run-gt0 c = answer-refused _ _ (bundle-begins c.args.bundle.now (search (rules, c.refusal_before-refusal.ensures, c.if-refusal-gt0.false))) c.run_clauses-run.ensures.0 c.if-run-gt0.true
+
+pub returns-then-out-length : goal.returns-then-out-length
+returns-then-out-length c = answer_longer _ _ (bundle-begins c.args.bundle.now (search (rules, c.refusal_before-refusal.ensures, c.if-refusal-gt0.false))) c.run_clauses-run.ensures.0 c.if-run-gt0.false c.if-out-length.true
+
+pub returns-then-length-le-SHEET_BYTES : goal.returns-then-length-le-SHEET_BYTES
+returns-then-length-le-SHEET_BYTES c = answer_copied _ _ (bundle-begins c.args.bundle.now (search (rules, c.refusal_before-refusal.ensures, c.if-refusal-gt0.false))) c.run_clauses-run.ensures.0 c.if-run-gt0.false c.if-out-length.false _ (search (rules, c.if-length-le-SHEET_BYTES.true)) c.run_clauses-run.ensures.1 c.part_before.ensures c.put_word.ensures.bytes
+
+pub run_clauses-requires : goal.run_clauses-requires
+run_clauses-requires c = let b = bundle-begins c.args.bundle.now (search (rules, c.refusal_before-refusal.ensures, c.if-refusal-gt0.false)) in (b.short, (b.ended, b.begun))
+
+pub returns : goal.returns
+returns c =
+    let sized : c.run_clauses-run.result.length - 0 ≡ c.run_clauses-run.result.length = omega arith in
+    answer-again _ _ (bundle-begins c.args.bundle.now (search (rules, c.refusal_before-refusal.ensures, c.if-refusal-gt0.false))) c.run_clauses-run.ensures.0 c.if-run-gt0.false c.if-out-length.false sized c.run_clauses.ensures.0 c.run_clauses.ensures.1 refl

@@ -1,0 +1,40 @@
+-- `check_lines::place_instruction`: each way of the code is a case of the definition. Assumes nothing.
+use borrow.Author.Tests.{ne_eqb}
+use Rattle.check_lines.specs.Reading.{place_instruction}
+use Rattle.check_lines.proofs.place_instruction.Goals as goal
+
+pub returns-in-11 : goal.returns-in-11
+unfolding place_instruction
+returns-in-11 c = simp c.in_default.keys1
+
+pub returns-in-12 : goal.returns-in-12
+unfolding place_instruction
+returns-in-12 c = simp c.in_default.keys2
+
+pub returns-in-13 : goal.returns-in-13
+unfolding place_instruction
+returns-in-13 c = simp c.in_default.keys3
+
+pub returns-in-14 : goal.returns-in-14
+unfolding place_instruction
+returns-in-14 c = simp c.in_default.keys4
+
+pub returns-in-15 : goal.returns-in-15
+unfolding place_instruction
+returns-in-15 c = simp c.in_default.keys5
+
+pub returns-in-16 : goal.returns-in-16
+unfolding place_instruction
+returns-in-16 c = simp c.in_default.keys6
+
+pub returns-in_default : goal.returns-in_default
+unfolding place_instruction
+returns-in_default c =
+    simp (
+      ne_eqb _ _ c.in_default.rest.1,
+      ne_eqb _ _ c.in_default.rest.0.1,
+      ne_eqb _ _ c.in_default.rest.0.0.1,
+      ne_eqb _ _ c.in_default.rest.0.0.0.1,
+      ne_eqb _ _ c.in_default.rest.0.0.0.0.1,
+      ne_eqb _ _ c.in_default.rest.0.0.0.0.0.1,
+    )

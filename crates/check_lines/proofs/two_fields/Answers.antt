@@ -1,0 +1,26 @@
+-- `check_lines::two_fields_lem`: each way of the code is a case of the definition. Assumes nothing.
+use mathlib.Core.Path.{sym}
+use Rattle.check_lines.specs.ReadingLaws.{by-none}
+use Rattle.check_lines.proofs.two_fields.Goals as goal
+
+pub returns-in-Number : goal.returns-in-Number
+returns-in-Number c =
+    simp (
+      c.second-1.given.1,
+      c.first-1.given.1,
+      c.argument_step.ensures,
+    )
+
+pub returns-in-Place : goal.returns-in-Place
+returns-in-Place c =
+    simp (
+      c.second-1.given.1,
+      c.first-in-Of-1.given.1,
+      c.argument_instruction.ensures,
+    )
+
+pub returns-in-Malformed-first : goal.returns-in-Malformed-first
+returns-in-Malformed-first c = simp (c.second-1.given.1, c.enum_told-1.given.1)
+
+pub returns-in-Malformed : goal.returns-in-Malformed
+returns-in-Malformed c = simp c.enum_told-in-Malformed-1.given.1 (sym (by-none c.args.first-1))

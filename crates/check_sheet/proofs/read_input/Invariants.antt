@@ -1,0 +1,10 @@
+-- `check_sheet::read_input`: the room keeps its length, and each turn leaves one less. Assumes nothing.
+use mathlib.Core.Path.{◌≡◌}
+use lib.ListN.{length}
+use Rattle.check_sheet.proofs.read_input.Given as goal
+
+abbrev pub invariant-loop-turns : goal.invariant-loop-turns
+invariant-loop-turns l = length l.input-1 ≡ length l.initial.input-1
+
+abbrev pub decreases-loop-turns : goal.decreases-loop-turns
+decreases-loop-turns l = l.turns

@@ -1,0 +1,18 @@
+-- `classes::join_all`: the pairs that are left lead from the labels now to the labels after all. The measure is what is left
+-- of the pairs. Assumes nothing.
+use Prim.Native.Nat.{ℕ, ◌-◌, ◌≤◌}
+use mathlib.Core.List.{List}
+use lib.ListN.{length, drop}
+use Rattle.classes.specs.Classes.{pairs_of, labels_after}
+use Rattle.classes.specs.Parents.{Falling, Rooted}
+use Rattle.classes.specs.ParentsLaws.{Toward}
+use Rattle.classes.proofs.join_all.Given as goal
+
+abbrev pub invariant-loop-i : goal.invariant-loop-i
+invariant-loop-i l =
+    (l.i ≤ length l.pairs)
+    × Falling l.parents
+    × ((labels : List ℕ) → Rooted l.initial.parents labels → Toward (labels_after labels (pairs_of l.pairs)) (pairs_of (drop l.i l.pairs)) l.parents)
+
+abbrev pub decreases-loop-i : goal.decreases-loop-i
+decreases-loop-i l = length l.pairs - l.i

@@ -1,0 +1,61 @@
+-- `event_calls::call`: the state first, then the length and the line, the room last; each way of the code is a case of the definition.
+-- Assumes nothing.
+use borrow.Author.Rules.{rules}
+use mathlib.Core.Path.{refl, sym, ◌∙◌}
+use borrow.Author.Tests.{not-true, not-false}
+use Rattle.event_calls.specs.CallLaws.{call_invalid, call_long, call-refused, call_longer, call-written}
+use Rattle.event_calls.proofs.call.Goals as goal
+
+pub returns-then-not-is_valid_state : goal.returns-then-not-is_valid_state
+returns-then-not-is_valid_state c =
+    call_invalid _ _ _
+    (sym c.is_valid_state.ensures ∙ not-true _ c.if-not-is_valid_state.true)
+    c.refused.ensures
+
+pub returns-then-line-gt-SHEET_BYTES : goal.returns-then-line-gt-SHEET_BYTES
+returns-then-line-gt-SHEET_BYTES c =
+    call_long _ _ _
+    (sym c.is_valid_state.ensures ∙ not-false _ c.if-not-is_valid_state.false)
+    c.if-line-gt-SHEET_BYTES.true
+    c.refused-then-line-gt-SHEET_BYTES.ensures
+
+pub step_bytes-answer-requires : goal.step_bytes-answer-requires
+step_bytes-answer-requires c = c.if-line-gt-SHEET_BYTES.false
+
+pub returns-then-answer-gt0 : goal.returns-then-answer-gt0
+returns-then-answer-gt0 c =
+    let read = c in
+    call-refused _ _ _
+    (sym read.is_valid_state.ensures ∙ not-false _ read.if-not-is_valid_state.false)
+    read.if-line-gt-SHEET_BYTES.false
+    read.step_bytes-answer.ensures
+    c.if-answer-gt0.true
+    c.refused-then-answer-gt0.ensures
+
+pub returns-then-out-length : goal.returns-then-out-length
+returns-then-out-length c =
+    let read = c in
+    call_longer _ _ _
+    (sym read.is_valid_state.ensures ∙ not-false _ read.if-not-is_valid_state.false)
+    read.if-line-gt-SHEET_BYTES.false
+    read.step_bytes-answer.ensures
+    c.if-answer-gt0.false
+    (search rules)
+    c.put_answer-length.ensures
+    c.if-out-length.true
+    c.refused-then-out-length.ensures
+
+pub returns : goal.returns
+returns c =
+    let read = c in
+    call-written _ _ _
+    (sym read.is_valid_state.ensures ∙ not-false _ read.if-not-is_valid_state.false)
+    read.if-line-gt-SHEET_BYTES.false
+    read.step_bytes-answer.ensures
+    c.if-answer-gt0.false
+    (search rules)
+    c.put_answer-length.ensures
+    c.if-out-length.false
+    c.part_before.ensures
+    c.put_word.ensures
+    refl

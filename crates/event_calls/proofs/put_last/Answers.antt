@@ -1,0 +1,33 @@
+-- `event_calls::put_last`: the state first, the room last; each way of the code is a case of the definition. Assumes nothing.
+use borrow.Author.Rules.{rules}
+use mathlib.Core.Path.{sym, ◌∙◌}
+use borrow.Author.Tests.{not-true, not-false}
+use Rattle.event_calls.specs.CallLaws.{last_invalid, last_longer, last_written}
+use Rattle.event_calls.proofs.put_last.Goals as goal
+
+pub returns-then-not-is_valid_state : goal.returns-then-not-is_valid_state
+returns-then-not-is_valid_state c = last_invalid _ _ (sym c.is_valid_state.ensures ∙ not-true _ c.if-not-is_valid_state.true)
+
+pub returns-then-out-count : goal.returns-then-out-count
+returns-then-out-count c =
+    let put = c in
+    last_longer _ _
+    (sym put.is_valid_state.ensures ∙ not-false _ put.if-not-is_valid_state.false)
+    put.max_reg_allocated-registers.ensures
+    put.num_perm_vars-slots.ensures
+    (search rules)
+    put.put_end-count.ensures
+    c.if-out-count.true
+
+pub returns : goal.returns
+returns c =
+    let put = c in
+    last_written _ _
+    (sym put.is_valid_state.ensures ∙ not-false _ put.if-not-is_valid_state.false)
+    put.max_reg_allocated-registers.ensures
+    put.num_perm_vars-slots.ensures
+    (search rules)
+    put.put_end-count.ensures
+    c.if-out-count.false
+    c.part_before.ensures
+    c.put_word.ensures

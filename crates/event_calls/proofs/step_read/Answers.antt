@@ -1,0 +1,30 @@
+-- `event_calls::step_read`: a line without form is refused, any other is carried out with the entries that were read. Assumes
+-- nothing.
+use Prim.Native.Nat.{ℕ, ◌-◌}
+use mathlib.Core.Path.{◌≡◌, ap, ◌∙◌}
+use native.Mathlib.Omega.{arith}
+use lib.ListN.{length, take}
+use borrow.Author.Rules.{rules}
+use Rattle.printing.specs.PrintingLaws.{printed-length}
+use Rattle.event_calls.specs.CallLaws.{line-malformed, count_within, line_said}
+use Rattle.event_calls.proofs.step_read.Goals as goal
+
+pub slice_bounds-step-end : goal.slice_bounds-step-end
+slice_bounds-step-end c =
+    let short = count_within _ c.read_line-said.ensures.0 _ c.said-1.given.1 c.requires c.read_line-said.ensures.1 in
+    search (rules, short)
+
+pub shape_of-list-in-Malformed : goal.shape_of-list-in-Malformed
+shape_of-list-in-Malformed c = ap length c.read_line-said.ensures.1 ∙ printed-length _ _ _
+
+pub returns-in-Malformed : goal.returns-in-Malformed
+returns-in-Malformed c = line-malformed _ c.read_line-said.ensures.0 _ c.enum_told-1.given.1 c.malformed.ensures
+
+pub shape_of-list-in-Says : goal.shape_of-list-in-Says
+shape_of-list-in-Says c = ap length c.read_line-said.ensures.1 ∙ printed-length _ _ _
+
+pub returns-in-Says : goal.returns-in-Says
+returns-in-Says c =
+    let said = c.said-1.given in
+    let all : said.0.1.0 - 0 ≡ said.0.1.0 = omega arith in
+    line_said _ c.read_line-said.ensures.0 _ said.1 c.requires c.read_line-said.ensures.1 _ (ap (λ (k : ℕ). take k c.read_line-said.new.1.0) all) c.step.ensures

@@ -1,0 +1,5 @@
+-- `event_fields::coded`: each way of the code is a case of the definition. Assumes nothing.
+use Rattle.event_fields.proofs.coded.Goals as goal
+
+pub returns-in-Of-register : goal.returns-in-Of-register
+returns-in-Of-register c = simp (c.context-1.given.1, c.register-1.given.1, c.use_in.ensures)

@@ -1,0 +1,70 @@
+-- `event_fields::context_of`: each way of the code is a case of the definition. Assumes nothing.
+use mathlib.Core.Path.{refl}
+use borrow.Author.Tests.{ne_eqb}
+use Rattle.notation.specs.Text.{byte}
+use Rattle.event_fields.specs.EventFields.{context_of}
+use Rattle.event_fields.specs.EventFieldsLaws.{same_letter}
+use Rattle.event_fields.proofs.context_of.Goals as goal
+
+pub returns-in-104 : goal.returns-in-104
+unfolding context_of
+returns-in-104 c = simp (same_letter (byte "h") refl, ← c.only_byte.ensures, c.in_default.keys1)
+
+pub returns-in-109 : goal.returns-in-109
+unfolding context_of
+returns-in-109 c =
+    let number = c in
+    let letter = number in
+    let whole = letter in
+    simp (
+      same_letter (byte "h") refl,
+      same_letter (byte "m") refl,
+      ← whole.only_byte.ensures,
+      ne_eqb _ _ letter.in_default.rest.1,
+      ← letter.part_before.ensures,
+      ← letter.only_byte-letter.ensures,
+      ← number.part_after.ensures,
+      ← number.read-chunk.ensures,
+      c.in_default-letter.keys1,
+      c.in_mid.ensures,
+    )
+
+pub returns-in-108 : goal.returns-in-108
+unfolding context_of
+returns-in-108 c =
+    let number = c in
+    let letter = number in
+    let whole = letter in
+    simp (
+      same_letter (byte "h") refl,
+      same_letter (byte "m") refl,
+      same_letter (byte "l") refl,
+      ← whole.only_byte.ensures,
+      ne_eqb _ _ letter.in_default.rest.1,
+      ← letter.part_before.ensures,
+      ← letter.only_byte-letter.ensures,
+      ← number.part_after.ensures,
+      ← number.read-chunk.ensures,
+      c.in_default-letter.keys2,
+      c.in_last.ensures,
+    )
+
+pub returns-in_default-letter : goal.returns-in_default-letter
+unfolding context_of
+returns-in_default-letter c =
+    let number = c in
+    let letter = number in
+    let whole = letter in
+    simp (
+      same_letter (byte "h") refl,
+      same_letter (byte "m") refl,
+      same_letter (byte "l") refl,
+      ← whole.only_byte.ensures,
+      ne_eqb _ _ letter.in_default.rest.1,
+      ← letter.part_before.ensures,
+      ← letter.only_byte-letter.ensures,
+      ← number.part_after.ensures,
+      ← number.read-chunk.ensures,
+      ne_eqb _ _ c.in_default-letter.rest.0.1,
+      ne_eqb _ _ c.in_default-letter.rest.1,
+    )

@@ -1,0 +1,70 @@
+-- `event_lines::line_of`: the word's number leads to the reading that the definition names. Assumes nothing.
+use mathlib.Core.Path.{ap, sym, ◌∙◌}
+use native.Mathlib.Omega.{arith}
+use Rattle.split.specs.Split.{tab}
+use Rattle.fields.specs.Fields.{fields_left}
+use Rattle.event_lines.specs.ReadLaws.{said_unknown, said_bare, said_one, said_two, said_three, said_mark, said_list, said_past, put_no_entries}
+use Rattle.event_lines.specs.Reading.{with_one, with_two, with_three}
+use Rattle.event_lines.proofs.line_of.Goals as goal
+
+pub returns-in-16 : goal.returns-in-16
+returns-in-16 c =
+    let a = c.args in
+    let fields = fields_left tab a.rest.now in (
+      c.with_three.ensures ∙ ap with_three c.three_numbers.ensures ∙ sym (said_three a.code fields c.in_default-1.keys1),
+      put_no_entries a.code fields a.list-1.now (λ l. omega arith),
+    )
+
+pub returns-in-1-to-6 : goal.returns-in-1-to-6
+returns-in-1-to-6 c =
+    let a = c.args in
+    let fields = fields_left tab a.rest.now in (
+      c.bare_line.ensures ∙ sym (said_bare a.code fields (omega arith)),
+      put_no_entries a.code fields a.list-1.now (λ l. omega arith),
+    )
+
+pub returns-in-7-to-12 : goal.returns-in-7-to-12
+returns-in-7-to-12 c =
+    let a = c.args in
+    let fields = fields_left tab a.rest.now in (
+      c.with_one.ensures ∙ ap (with_one a.code) c.one_number.ensures ∙ sym (said_one a.code fields (omega arith) (omega arith)),
+      put_no_entries a.code fields a.list-1.now (λ l. omega arith),
+    )
+
+pub returns-in-13-to-15 : goal.returns-in-13-to-15
+returns-in-13-to-15 c =
+    let a = c.args in
+    let fields = fields_left tab a.rest.now in (
+      c.with_two.ensures ∙ ap (with_two a.code) c.two_numbers.ensures ∙ sym (said_two a.code fields (omega arith) (omega arith)),
+      put_no_entries a.code fields a.list-1.now (λ l. omega arith),
+    )
+
+pub returns-in-17-to-19 : goal.returns-in-17-to-19
+returns-in-17-to-19 c =
+    let a = c.args in
+    let fields = fields_left tab a.rest.now in (
+      c.mark_line.ensures ∙ sym (said_mark a.code fields (omega arith) (omega arith)),
+      put_no_entries a.code fields a.list-1.now (λ l. omega arith),
+    )
+
+pub returns-in-20-to-22 : goal.returns-in-20-to-22
+returns-in-20-to-22 c =
+    let a = c.args in
+    let said = c.list_line.ensures in
+    (said.0 ∙ sym (said_list a.code (fields_left tab a.rest.now) (omega arith)), said.1)
+
+pub returns-in_default : goal.returns-in_default
+returns-in_default c =
+    let a = c.args in
+    let fields = fields_left tab a.rest.now in (
+      sym (said_unknown a.code fields (omega arith)),
+      put_no_entries a.code fields a.list-1.now (λ l. omega arith),
+    )
+
+pub returns-in_default-2 : goal.returns-in_default-2
+returns-in_default-2 c =
+    let a = c.args in
+    let fields = fields_left tab a.rest.now in (
+      sym (said_past a.code fields (omega arith)),
+      put_no_entries a.code fields a.list-1.now (λ l. omega arith),
+    )

@@ -1,0 +1,34 @@
+-- `event_lines::list_line`: each way of the code is a case of the definition. Assumes nothing.
+use borrow.Author.Tests.{ne_eqb}
+use native.Mathlib.Omega.{arith}
+use Rattle.split.specs.Split.{tab}
+use Rattle.fields.specs.Fields.{fields_left}
+use Rattle.event_lines.specs.ReadLaws.{put_no_entries}
+use Rattle.event_lines.specs.Reading.{list_line, entries_by}
+use Rattle.event_lines.proofs.list_line.Goals as goal
+
+pub returns-in-20 : goal.returns-in-20
+unfolding list_line entries_by
+returns-in-20 c =
+    (simp (c.in_default.keys1, c.temp_line.ensures.0), simp (c.in_default.keys1, c.temp_line.ensures.1))
+
+pub returns-in-21 : goal.returns-in-21
+unfolding list_line entries_by
+returns-in-21 c =
+    let k = c.in_default.keys2 in
+    (simp (k, c.headed.ensures, c.read_list-arguments.ensures.0), simp (k, c.read_list-arguments.ensures.1))
+
+pub returns-in-22 : goal.returns-in-22
+unfolding list_line entries_by
+returns-in-22 c =
+    let k = c.in_default.keys3 in
+    (simp (k, c.close_line.ensures.0), simp (k, c.close_line.ensures.1))
+
+pub returns-in_default : goal.returns-in_default
+unfolding list_line
+returns-in_default c =
+    let a = c.args in
+    let k = c.in_default.rest in (
+      simp (ne_eqb _ _ k.1, ne_eqb _ _ k.0.1, ne_eqb _ _ k.0.0.1),
+      put_no_entries a.code (fields_left tab a.rest.now) a.list-1.now (λ l. omega (arith, k)),
+    )

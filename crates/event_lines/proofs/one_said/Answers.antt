@@ -1,0 +1,40 @@
+-- `event_lines::one_said`: each way of the code is a case of the definition. Assumes nothing.
+use borrow.Author.Tests.{ne_eqb}
+use Rattle.event_lines.specs.Reading.{event_among}
+use Rattle.event_lines.proofs.one_said.Goals as goal
+
+pub returns-in-7 : goal.returns-in-7
+unfolding event_among
+returns-in-7 c = simp c.in_default.keys1
+
+pub returns-in-8 : goal.returns-in-8
+unfolding event_among
+returns-in-8 c = simp c.in_default.keys2
+
+pub returns-in-9 : goal.returns-in-9
+unfolding event_among
+returns-in-9 c = simp c.in_default.keys3
+
+pub returns-in-10 : goal.returns-in-10
+unfolding event_among
+returns-in-10 c = simp c.in_default.keys4
+
+pub returns-in-11 : goal.returns-in-11
+unfolding event_among
+returns-in-11 c = simp c.in_default.keys5
+
+pub returns-in-12 : goal.returns-in-12
+unfolding event_among
+returns-in-12 c = simp c.in_default.keys6
+
+pub returns-in_default : goal.returns-in_default
+unfolding event_among
+returns-in_default c =
+    simp (
+      ne_eqb _ _ c.in_default.rest.1,
+      ne_eqb _ _ c.in_default.rest.0.1,
+      ne_eqb _ _ c.in_default.rest.0.0.1,
+      ne_eqb _ _ c.in_default.rest.0.0.0.1,
+      ne_eqb _ _ c.in_default.rest.0.0.0.0.1,
+      ne_eqb _ _ c.in_default.rest.0.0.0.0.0.1,
+    )

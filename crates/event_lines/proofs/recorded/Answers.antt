@@ -1,0 +1,5 @@
+-- `event_lines::recorded`: each way of the code is a case of the definition. Assumes nothing.
+use Rattle.event_lines.proofs.recorded.Goals as goal
+
+pub returns-in-Of-uses : goal.returns-in-Of-uses
+returns-in-Of-uses c = simp (c.occurrences-1.given.1, c.context-1.given.1, c.uses-1.given.1)

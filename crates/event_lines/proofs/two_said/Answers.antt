@@ -1,0 +1,25 @@
+-- `event_lines::two_said_lem`: each way of the code is a case of the definition. Assumes nothing.
+use borrow.Author.Tests.{ne_eqb}
+use Rattle.event_lines.specs.Reading.{event_among}
+use Rattle.event_lines.proofs.two_said.Goals as goal
+
+pub returns-in-13 : goal.returns-in-13
+unfolding event_among
+returns-in-13 c = simp c.in_default.keys1
+
+pub returns-in-14 : goal.returns-in-14
+unfolding event_among
+returns-in-14 c = simp c.in_default.keys2
+
+pub returns-in-15 : goal.returns-in-15
+unfolding event_among
+returns-in-15 c = simp c.in_default.keys3
+
+pub returns-in_default : goal.returns-in_default
+unfolding event_among
+returns-in_default c =
+    simp (
+      ne_eqb _ _ c.in_default.rest.1,
+      ne_eqb _ _ c.in_default.rest.0.1,
+      ne_eqb _ _ c.in_default.rest.0.0.1,
+    )

@@ -1,0 +1,5 @@
+-- `event_lines::with_one`: each way of the code is a case of the definition. Assumes nothing.
+use Rattle.event_lines.proofs.with_one.Goals as goal
+
+pub returns-in-Of : goal.returns-in-Of
+returns-in-Of c = simp (c.number-1.given.1, c.one_said.ensures)

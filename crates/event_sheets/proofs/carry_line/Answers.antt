@@ -1,0 +1,16 @@
+-- `event_sheets::carry_line`: a line without form changes nothing, any other is carried out with the entries that were read.
+-- Assumes nothing.
+use mathlib.Core.Path.{ap, ◌∙◌}
+use lib.ListN.{length}
+use Rattle.printing.specs.PrintingLaws.{printed-length}
+use Rattle.event_sheets.specs.RunningLaws.{line-malformed, line_said}
+use Rattle.event_sheets.proofs.carry_line.Goals as goal
+
+pub returns-in-Malformed : goal.returns-in-Malformed
+returns-in-Malformed c = line-malformed _ _ c.read_line-said.ensures.0 c.enum_told-1.given.1 c.malformed.ensures
+
+pub shape_of-list-in-Says : goal.shape_of-list-in-Says
+shape_of-list-in-Says c = ap length c.read_line-said.ensures.1 ∙ printed-length _ _ _
+
+pub returns-in-Says : goal.returns-in-Says
+returns-in-Says c = line_said _ _ _ c.read_line-said.ensures.0 c.said-1.given.1 c.read_line-said.ensures.1 c.entries_of.ensures c.requires c.act.ensures

@@ -1,0 +1,65 @@
+-- `event_sheets::run_lines`: what is left of the sheet, run from here on, makes the run of the whole sheet. The measure is the
+-- length of what is left. Assumes nothing.
+use Prim.Native.Nat.{◌≤◌}
+use mathlib.Core.Path.{refl, ap, ◌∙◌}
+use native.Mathlib.Omega.{arith}
+use lib.ListN.{length}
+use lib.Seq.{length-take-le}
+use borrow.Author.Rules.{rules}
+use Rattle.split.specs.SplitLaws.{drop_shorter}
+use Rattle.printing.specs.PrintingLaws.{printed-length}
+use Rattle.answers.specs.AnswersLaws.{answer_short}
+use Rattle.event_sheets.specs.RunningLaws.{going-first, going-last, going-refused, going_on_lem}
+use Rattle.event_sheets.proofs.run_lines.Goals as goal
+
+pub loop-end-init : goal.loop-end-init
+loop-end-init c = (going-first _ _ _ c.fresh-fresh.ensures c.end_of_lem.ensures, c.requires.1, refl)
+
+pub carry_line-acted-requires : goal.carry_line-acted-requires
+carry_line-acted-requires c =
+    let l = c.loop-end in
+    let short : l.end ≤ length l.rest.now = omega (arith, c.loop-end-test.true) in
+    omega (arith, ap length c.part_before.ensures, length-take-le l.end l.rest.now short, l.invariant.1, l.invariant.2)
+
+pub shape_of-list-then-acted-gt0 : goal.shape_of-list-then-acted-gt0
+shape_of-list-then-acted-gt0 c = c.list-1.given ∙ c.loop-end.invariant.2
+
+pub shape_of-out-then-acted-gt0 : goal.shape_of-out-then-acted-gt0
+shape_of-out-then-acted-gt0 c = c.loop-end.invariant.0.room
+
+pub returns-then-acted-gt0 : goal.returns-then-acted-gt0
+returns-then-acted-gt0 c = going-refused c.loop-end.invariant.0 c.loop-end-test.true c.part_before.ensures c.carry_line-acted.ensures c.if-acted-gt0.true
+
+pub overflow_add-length : goal.overflow_add-length
+overflow_add-length c =
+    let r = c.carry_line-acted.result in
+    let g = c.loop-end.invariant.0 in
+    omega (arith, c.add_answer-adding.ensures.counted, answer_short r.code r.at, g.short, g.lines, c.requires.0)
+
+pub overflow_add-number : goal.overflow_add-number
+overflow_add-number c = omega (arith, c.loop-end.invariant.0.lines, c.requires.0)
+
+pub loop-end-smaller : goal.loop-end-smaller
+loop-end-smaller c =
+    let l = c.loop-end in
+    omega (arith, ap length c.part_after-next.ensures, drop_shorter l.end l.rest.now c.loop-end-test.true)
+
+pub loop-end-preserved : goal.loop-end-preserved
+loop-end-preserved c =
+    let l = c.loop-end in (
+      going_on_lem l.invariant.0 c.loop-end-test.true c.part_before.ensures c.carry_line-acted.ensures c.if-acted-gt0.false c.add_answer-adding.ensures c.part_after-next.ensures c.end_of-end-in-loop-end.ensures,
+      omega (arith, ap length c.part_after-next.ensures, drop_shorter l.end l.rest.now c.loop-end-test.true, l.invariant.1),
+      search rules,
+    )
+
+pub finish-requires : goal.finish-requires
+finish-requires c = omega (arith, c.loop-end.invariant.0.short, c.loop-end.invariant.0.lines, c.requires.0)
+
+pub shape_of-list : goal.shape_of-list
+shape_of-list c = c.loop-end.invariant.2
+
+pub shape_of-out : goal.shape_of-out
+shape_of-out c = ap length c.finish.ensures.1 ∙ printed-length _ _ _ ∙ c.loop-end.invariant.0.room
+
+pub returns : goal.returns
+returns c = going-last c.loop-end.invariant.0 c.loop-end-test.false c.finish.ensures.0 c.finish.ensures.1

@@ -1,0 +1,15 @@
+-- `event_sheets::run_sheet`: a sheet that is too long has no run; the list of every other is long enough. Assumes nothing.
+use Rattle.event_sheets.specs.RunningLaws.{run_full, run_within}
+use Rattle.event_sheets.proofs.run_sheet.Goals as goal
+
+pub returns-then-sheet-gt-SHEET_BYTES : goal.returns-then-sheet-gt-SHEET_BYTES
+returns-then-sheet-gt-SHEET_BYTES c = run_full _ _ _ c.if-sheet-gt-SHEET_BYTES.true
+
+pub returns-then-sheet-le-SMALL_SHEET : goal.returns-then-sheet-le-SMALL_SHEET
+returns-then-sheet-le-SMALL_SHEET c = run_within _ _ _ c.if-sheet-gt-SHEET_BYTES.false c.run_lines.ensures.0 c.run_lines.ensures.1
+
+pub returns-then-sheet-le-SHORT_SHEET : goal.returns-then-sheet-le-SHORT_SHEET
+returns-then-sheet-le-SHORT_SHEET c = run_within _ _ _ c.if-sheet-gt-SHEET_BYTES.false c.run_lines-then-sheet-le-SHORT_SHEET.ensures.0 c.run_lines-then-sheet-le-SHORT_SHEET.ensures.1
+
+pub returns : goal.returns
+returns c = run_within _ _ _ c.if-sheet-gt-SHEET_BYTES.false c.run_lines-2.ensures.0 c.run_lines-2.ensures.1

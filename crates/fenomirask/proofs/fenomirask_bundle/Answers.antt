@@ -1,0 +1,19 @@
+-- `fenomirask::fenomirask_bundle`: the answer fits, since its count stays within the lent bytes and its line within the sheet.
+-- Assumes nothing.
+use mathlib.Core.Path.{ap, ◌∙◌}
+use native.Mathlib.Omega.{arith}
+use Rattle.answered.specs.Answered.{number_of}
+use Rattle.fenomirask.specs.NumbersLaws.{bundle-fits}
+use Rattle.fenomirask.proofs.Words.{read_back}
+use Rattle.fenomirask.proofs.fenomirask_bundle.Goals as goal
+
+pub number_of-requires : goal.number_of-requires
+number_of-requires c =
+    let answered = c in
+    let start = answered in
+    bundle-fits start.args.sheet.now _ (omega (arith, start.well-formed.1.0.1)) answered.answer-answered.ensures.0
+
+pub returns : goal.returns
+returns c =
+    let answered = c.answer-answered.ensures in
+    (read_back c.number_of.type-inv (c.number_of.ensures ∙ ap number_of answered.0), answered.1)

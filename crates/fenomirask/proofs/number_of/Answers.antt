@@ -1,0 +1,21 @@
+-- `fenomirask::number_of`: each kind of answer has a function of its own.
+-- Assumes nothing.
+use mathlib.Core.Path.{ap, sym, subst, ◌∙◌}
+use Rattle.answered.specs.Answered.{number_of}
+use Rattle.fenomirask.specs.Numbers.{Fits}
+use Rattle.fenomirask.proofs.Words.{read_back}
+use Rattle.fenomirask.proofs.number_of.Goals as goal
+
+pub signed-requires : goal.signed-requires
+signed-requires c = subst Fits c.answered-1.given.1 c.requires
+
+pub signed_refusal-requires : goal.signed_refusal-requires
+signed_refusal-requires c = subst Fits c.answered-in-Refused-1.given.1 c.requires
+
+pub returns-in-Written : goal.returns-in-Written
+returns-in-Written c = read_back c.signed.type-inv (c.signed.ensures ∙ sym (ap number_of c.answered-1.given.1))
+
+pub returns-in-Refused : goal.returns-in-Refused
+returns-in-Refused c =
+    read_back c.signed_refusal.type-inv
+    (c.signed_refusal.ensures ∙ sym (ap number_of c.answered-in-Refused-1.given.1))

@@ -1,0 +1,24 @@
+-- `fenomirask::step`: the answer fits, since its count stays within the lent bytes and its line is 1 at most.
+-- Assumes nothing.
+use mathlib.Core.Path.{ap, ◌∙◌}
+use native.Mathlib.Omega.{arith}
+use Rattle.event_calls.specs.declared.Called.{Called}
+use Rattle.answered.specs.Answered.{number_of}
+use Rattle.fenomirask.specs.NumbersLaws.{call_fits}
+use Rattle.fenomirask.proofs.Words.{read_back}
+use Rattle.fenomirask.proofs.step.Goals as goal
+
+pub number_of-number-requires : goal.number_of-number-requires
+number_of-number-requires c =
+    let call = c in
+    let start = call in
+    call_fits start.args.state _ (omega (arith, start.well-formed.1.1.0.1)) start.args.line.now
+    (ap (λ (k : Called). k.answered) call.call-called.ensures.0)
+
+pub returns : goal.returns
+returns c =
+    let call = c.call-called.ensures in (
+      read_back c.number_of-number.type-inv (c.number_of-number.ensures ∙ ap (λ (k : Called). number_of k.answered) call.0),
+      ap (λ (k : Called). k.state) call.0,
+      call.1,
+    )

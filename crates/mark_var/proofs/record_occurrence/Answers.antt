@@ -1,0 +1,8 @@
+-- `mark_var::record_occurrence`: each way of the code is a case of the definition. Assumes nothing.
+use Rattle.mark_var.proofs.record_occurrence.Goals as goal
+
+pub returns-in-Well : goal.returns-in-Well
+returns-in-Well c = let e = c.add_branch_occurrence-recorded.ensures in (simp (← e.0, c.enum_told-1.given.1), (e.1.0, e.1.1))
+
+pub returns-in-PastArms : goal.returns-in-PastArms
+returns-in-PastArms c = let e = c.add_branch_occurrence-recorded.ensures in (simp (← e.0, c.enum_told-in-PastArms-1.given.1), (e.1.0, e.1.1))

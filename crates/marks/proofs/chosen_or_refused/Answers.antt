@@ -1,0 +1,8 @@
+-- `marks::chosen_or_refused`: each way of the code is a case of the definition. Assumes nothing.
+use Rattle.marks.proofs.chosen_or_refused.Goals as goal
+
+pub returns-in-Register : goal.returns-in-Register
+returns-in-Register c = simp c.chosen-1.given.1
+
+pub returns-in-NoRegister : goal.returns-in-NoRegister
+returns-in-NoRegister c = simp c.enum_told-1.given.1

@@ -1,0 +1,5 @@
+-- `record_marks::remember_perm`: the code is the definition. Assumes nothing.
+use Rattle.record_marks.proofs.remember_perm.Goals as goal
+
+pub returns-in-Temp : goal.returns-in-Temp
+returns-in-Temp c = simp (c.allocation-1.given.1, c.allocated.ensures)

@@ -1,0 +1,15 @@
+-- `replies::put_bundle_reply`: what is put of the answer is the reply. Assumes nothing.
+use Rattle.replies.specs.RepliesLaws.{bundle_printable, bundle-put}
+use Rattle.replies.proofs.put_bundle_reply.Goals as goal
+
+pub put_told-requires : goal.put_told-requires
+put_told-requires c =
+    let answered = c in
+    let a = answered.args in
+    bundle_printable a.bundle.now a.out-1.now answered.answer-answered.ensures.0
+
+pub returns : goal.returns
+returns c =
+    let answered = c in
+    let a = answered.args in
+    bundle-put a.bundle.now a.out-1.now answered.answer-answered.ensures.0 answered.answer-answered.ensures.1 c.put_told.ensures

@@ -1,0 +1,23 @@
+-- `reserved_var::is_met`: each way of the code is a case of the definition. Assumes nothing.
+use Rattle.reserved_var.specs.ReservedVar.{met}
+use Rattle.reserved_var.proofs.is_met.Goals as goal
+
+pub returns-then-not-is_new : goal.returns-then-not-is_new
+unfolding met
+returns-then-not-is_new c = simp c.if-not-is_new.true
+
+pub returns-in-Mid : goal.returns-in-Mid
+unfolding met
+returns-in-Mid c = simp (c.if-not-is_new.false, c.enum_told-1.given.1)
+
+pub returns-in-Last : goal.returns-in-Last
+unfolding met
+returns-in-Last c = simp (c.if-not-is_new.false, c.enum_told-in-Last-1.given.1)
+
+pub returns-in-Temp : goal.returns-in-Temp
+unfolding met
+returns-in-Temp c = simp (c.if-not-is_new.false, c.enum_told-in-Head-1.given.1, c.place-1.given.1, c.occurs_shallowly_in_head.ensures)
+
+pub returns-in-Perm : goal.returns-in-Perm
+unfolding met
+returns-in-Perm c = simp (c.if-not-is_new.false, c.enum_told-in-Head-1.given.1, c.place-in-Head-1.given.1, c.occurs_shallowly_in_head-in-Perm.ensures)

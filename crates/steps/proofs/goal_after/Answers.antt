@@ -1,0 +1,5 @@
+-- `steps::goal_after`: each way of the code is a case of the definition. Assumes nothing.
+use Rattle.steps.proofs.goal_after.Goals as goal
+
+pub returns-in-Goal : goal.returns-in-Goal
+returns-in-Goal c = simp (c.step-1.given.1, c.insert.ensures)

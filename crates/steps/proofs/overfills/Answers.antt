@@ -1,0 +1,8 @@
+-- `steps::overfills`: each way of the code is a case of the definition. Assumes nothing.
+use Rattle.steps.proofs.overfills.Goals as goal
+
+pub returns-in-Begins : goal.returns-in-Begins
+returns-in-Begins c = simp c.enum_told-1.given.1
+
+pub returns-in-Does : goal.returns-in-Does
+returns-in-Does c = simp c.enum_told-in-Does-1.given.1

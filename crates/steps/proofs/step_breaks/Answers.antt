@@ -1,0 +1,11 @@
+-- `steps::step_breaks`: each way of the code is a case of the definition. Assumes nothing.
+use Rattle.steps.proofs.step_breaks.Goals as goal
+
+pub returns-in-Head : goal.returns-in-Head
+returns-in-Head c = simp c.enum_told-1.given.1
+
+pub returns-in-HeadDeep : goal.returns-in-HeadDeep
+returns-in-HeadDeep c = simp c.enum_told-in-HeadDeep-1.given.1
+
+pub returns-in-Goal : goal.returns-in-Goal
+returns-in-Goal c = simp (c.step-1.given.1, c.contains.ensures)

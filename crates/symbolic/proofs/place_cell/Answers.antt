@@ -1,0 +1,8 @@
+-- `symbolic::place_cell`: each kind of place is a case of the definition. Assumes nothing.
+use Rattle.symbolic.proofs.place_cell.Goals as goal
+
+pub returns-in-Temp : goal.returns-in-Temp
+returns-in-Temp c = simp c.place-1.given.1
+
+pub returns-in-Perm : goal.returns-in-Perm
+returns-in-Perm c = simp c.place-in-Perm-1.given.1

@@ -1,0 +1,33 @@
+-- `temp_var_data::populate_conflict_set`: the registers of the uses passed have been removed.
+-- The measure is what is left of the use set. Assumes nothing.
+use Prim.Native.Nat.{◌-◌}
+use mathlib.Core.Path.{ap, ap₂, ◌∙◌}
+use native.Mathlib.Numerals.{add-one}
+use native.Mathlib.Omega.{arith}
+use lib.ListN.{length}
+use Rattle.bit_set.specs.BitSet.{removed}
+use Rattle.temp_var_data.specs.Uses.{conflict_of}
+use Rattle.temp_var_data.specs.UsesLaws.{uses_le}
+use Rattle.temp_var_data.specs.ConflictLaws.{without-none, without-next, without_all}
+use Rattle.temp_var_data.proofs.populate_conflict_set.Goals as goal
+
+pub overflow_cast-use_set : goal.overflow_cast-use_set
+overflow_cast-use_set c =
+    let a = c.args in
+    omega (arith, ap length c.uses_of-use_set.ensures, uses_le a.use-sets.now a.use-counts.now a.v)
+
+pub loop-i-init : goal.loop-i-init
+loop-i-init c = c.up_to_lem.ensures ∙ without-none _
+
+pub loop-i-preserved : goal.loop-i-preserved
+loop-i-preserved c =
+    let l = c.loop-i in
+    rw (add-one l.i)
+    (c.remove-conflict_set.ensures
+    ∙ ap₂ removed l.invariant c.register_of.ensures
+    ∙ without-next _ l.i c.loop-i-test.true)
+
+pub returns : goal.returns
+returns c =
+    let l = c.loop-i in
+    l.invariant ∙ without_all _ l.i c.loop-i-test.false ∙ ap conflict_of c.uses_of-use_set.ensures

@@ -1,0 +1,16 @@
+-- `variable_records::context_of`: each code of the match is a case of the definition. Assumes nothing.
+use borrow.Author.Tests.{ne_eqb}
+use Rattle.variable_records.specs.Rows.{context_of}
+use Rattle.variable_records.proofs.context_of.Goals as goal
+
+pub returns-in-0 : goal.returns-in-0
+unfolding context_of
+returns-in-0 c = simp c.in_default.keys1
+
+pub returns-in-1 : goal.returns-in-1
+unfolding context_of
+returns-in-1 c = simp c.in_default.keys2
+
+pub returns-in_default : goal.returns-in_default
+unfolding context_of
+returns-in_default c = simp (ne_eqb _ _ c.in_default.rest.0.1, ne_eqb _ _ c.in_default.rest.1)
