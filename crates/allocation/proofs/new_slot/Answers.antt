@@ -9,4 +9,4 @@ returns-then-slot-gt-LAST_REGISTER c = simp (lt-ltb _ _ c.if-slot-gt-LAST_REGIST
 
 pub returns : goal.returns
 unfolding new_slot
-returns c = simp (le-ltb _ _ c.if-slot-gt-LAST_REGISTER.false, ← c.give_slot.ensures, c.counter_after_lem.ensures)
+returns c = simp (le-ltb _ _ c.if-slot-gt-LAST_REGISTER.false, ← c.give_slot.ensures, c.counter_after.ensures)

@@ -2,4 +2,4 @@
 use Rattle.allocation.proofs.with_searched.Goals as goal
 
 pub returns : goal.returns
-returns c = simp (← c.counter_after_lem.ensures, c.insert.ensures)
+returns c = simp (← c.counter_after.ensures, c.insert.ensures)

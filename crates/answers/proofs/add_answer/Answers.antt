@@ -5,11 +5,9 @@ use Rattle.answers.proofs.add_answer.Goals as goal
 
 pub returns : goal.returns
 returns c =
-    let copied = c in
-    let printed = copied in
-    let a = printed.args in
+    let a = c.args in
     added
     (search (rules, answer_short a.code a.place))
-    printed.put_answer-length.ensures
-    copied.scratched.ensures
+    c.put_answer-length.ensures
+    c.scratched.ensures
     c.put_word-next.ensures

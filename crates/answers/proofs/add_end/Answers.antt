@@ -5,11 +5,9 @@ use Rattle.answers.proofs.add_end.Goals as goal
 
 pub returns : goal.returns
 returns c =
-    let copied = c in
-    let printed = copied in
-    let a = printed.args in
+    let a = c.args in
     added
-    (search (rules, end_short a.max-reg-allocated a.num-perm-vars))
-    printed.put_end-length.ensures
-    copied.scratched.ensures
+    (search (rules, end_short a.max_reg_allocated a.num_perm_vars))
+    c.put_end-length.ensures
+    c.scratched.ensures
     c.put_word-next.ensures

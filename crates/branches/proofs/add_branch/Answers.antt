@@ -23,7 +23,7 @@ returns c =
     let a = c.args in
     let top = c.top_of-top.ensures in
     let held = c.holds_temporary.ensures in
-    let takes : taken a.records.now a.rows.now a.sets.now a.open-branches ≡ Took =
+    let takes : taken a.records.now a.rows.now a.sets.now a.open_branches ≡ Took =
     simp (ne_eqb _ _ c.if-open_branches-eq0.false, ← top, ← held, c.if-holds_temporary.false)
     in
     let safety = c.take_safety-taken.ensures in (

@@ -13,26 +13,22 @@ loop-set-init c = refl
 
 pub returns-then-is_temporary_member : goal.returns-then-is_temporary_member
 returns-then-is_temporary_member c =
-    let test = c in
-    let l = test.loop-set in
-    let below = from-below _ _ test.has_from.ensures test.loop-set-test.true in
+    let l = c.loop-set in
+    let below = from-below _ _ c.has_from.ensures c.loop-set-test.true in
     sym (member_hit _ _ l.v variables below (sym c.is_temporary_member.ensures ∙ c.if-is_temporary_member.true)) ∙ l.invariant
 
 pub overflow_add-v : goal.overflow_add-v
 overflow_add-v c =
-    let test = c in
-    search (rules, from-below _ _ test.has_from.ensures test.loop-set-test.true)
+    search (rules, from-below _ _ c.has_from.ensures c.loop-set-test.true)
 
 pub loop-set-smaller : goal.loop-set-smaller
 loop-set-smaller c =
-    let test = c in
-    search (rules, from-below _ _ test.has_from.ensures test.loop-set-test.true)
+    search (rules, from-below _ _ c.has_from.ensures c.loop-set-test.true)
 
 pub loop-set-preserved : goal.loop-set-preserved
 loop-set-preserved c =
-    let test = c in
-    let l = test.loop-set in
-    let below = from-below _ _ test.has_from.ensures test.loop-set-test.true in
+    let l = c.loop-set in
+    let below = from-below _ _ c.has_from.ensures c.loop-set-test.true in
     sym (member_miss _ _ l.v variables below (sym c.is_temporary_member.ensures ∙ c.if-is_temporary_member.false)) ∙ l.invariant
 
 pub returns : goal.returns

@@ -14,20 +14,17 @@ loop-records-init c = refl
 
 pub overflow_add-v : goal.overflow_add-v
 overflow_add-v c =
-    let test = c in
-    search (rules, from-below _ _ test.has_from.ensures test.loop-records-test.true)
+    search (rules, from-below _ _ c.has_from.ensures c.loop-records-test.true)
 
 pub loop-records-smaller : goal.loop-records-smaller
 loop-records-smaller c =
-    let test = c in
-    search (rules, from-below _ _ test.has_from.ensures test.loop-records-test.true)
+    search (rules, from-below _ _ c.has_from.ensures c.loop-records-test.true)
 
 pub loop-records-preserved : goal.loop-records-preserved
 unfolding pended_if_member
 loop-records-preserved c =
-    let test = c in
-    let l = test.loop-records in
-    let below = from-below _ _ test.has_from.ensures test.loop-records-test.true in
+    let l = c.loop-records in
+    let below = from-below _ _ c.has_from.ensures c.loop-records-test.true in
     each_member variable_pended l.v variables _ _ l.invariant below c.pend_member.ensures
 
 pub returns : goal.returns

@@ -30,7 +30,7 @@ returns c =
     let open-enough = le-ltb _ _ c.if-open_branches-depth.false in
     let named = c.names_temporary.ensures in
     let past = c.nowhere_recorded.ensures in
-    let closes : popped a.records.now a.rows.now a.sets.now a.open-branches a.depth a.variables.now ≡ Left (a.open-branches - a.depth) =
+    let closes : popped a.records.now a.rows.now a.sets.now a.open_branches a.depth a.variables.now ≡ Left (a.open_branches - a.depth) =
     simp (open-enough, ← named, c.if-names_temporary.false, ← past, c.if-nowhere_recorded.false)
     in
     let met = c.meet-met.ensures in

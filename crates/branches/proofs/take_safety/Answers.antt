@@ -16,20 +16,17 @@ loop-guards-init c = (refl, refl)
 
 pub overflow_add-v : goal.overflow_add-v
 overflow_add-v c =
-    let test = c in
-    search (rules, from-below _ _ test.has_from.ensures test.loop-guards-test.true)
+    search (rules, from-below _ _ c.has_from.ensures c.loop-guards-test.true)
 
 pub loop-guards-smaller : goal.loop-guards-smaller
 loop-guards-smaller c =
-    let test = c in
-    search (rules, from-below _ _ test.has_from.ensures test.loop-guards-test.true)
+    search (rules, from-below _ _ c.has_from.ensures c.loop-guards-test.true)
 
 pub loop-guards-preserved : goal.loop-guards-preserved
 loop-guards-preserved c =
-    let test = c in
-    let a = test.args in
-    let l = test.loop-guards in
-    let more = from-below _ _ test.has_from.ensures test.loop-guards-test.true in
+    let a = c.args in
+    let l = c.loop-guards in
+    let more = from-below _ _ c.has_from.ensures c.loop-guards-test.true in
     let guards = c.member_guards-guards.ensures in (
       each_member _ l.v variables _ _ l.invariant.0 more (c.insert_if-shallow.ensures ∙ ap (λ (g : Guards). inserted_if l.shallow l.v g.shallow) guards ∙ shallow_if_member a.records.now a.top l.shallow l.v),
       each_member _ l.v variables _ _ l.invariant.1 more (c.insert_if-deep.ensures ∙ ap (λ (g : Guards). inserted_if l.deep l.v g.deep) guards ∙ deep_if_member a.records.now a.top l.deep l.v),
@@ -38,9 +35,8 @@ loop-guards-preserved c =
 pub returns : goal.returns
 unfolding safety_taken
 returns c =
-    let test = c in
-    let l = test.loop-guards in
-    let none = from-none _ _ test.has_from.ensures test.loop-guards-test.false in
+    let l = c.loop-guards in
+    let none = from-none _ _ c.has_from.ensures c.loop-guards-test.false in
     let shallow = each_member_end _ l.v variables _ l.invariant.0 none in
     let deep = each_member_end _ l.v variables _ l.invariant.1 none in
     simp (shallow, deep, c.empty.ensures)

@@ -4,7 +4,7 @@ use lib.ListN.{length}
 use Rattle.bundle_sheet.proofs.read_input.Given as goal
 
 abbrev pub invariant-loop-turns : goal.invariant-loop-turns
-invariant-loop-turns l = length l.input-1 ≡ length l.initial.input-1
+invariant-loop-turns l = length l.input ≡ length l.initial.input
 
 abbrev pub decreases-loop-turns : goal.decreases-loop-turns
 decreases-loop-turns l = l.turns

@@ -9,4 +9,4 @@ use Rattle.bundles.proofs.is_clause.Goals as goal
 
 pub returns : goal.returns
 unfolding is_clause
-returns c = c.is.ensures ∙ ap (λ l. same l clause_word) (c.part_before.ensures ∙ ap (λ n. take n c.args.line.now) c.end_of_lem.ensures ∙ take-before tab c.args.line.now)
+returns c = c.is.ensures ∙ ap (λ l. same l clause_word) (c.part_before.ensures ∙ ap (λ n. take n c.args.line.now) c.end_of-end.ensures ∙ take-before tab c.args.line.now)

@@ -17,7 +17,7 @@ pub returns-then-bundle-ne-LINE_FEED : goal.returns-then-bundle-ne-LINE_FEED
 returns-then-bundle-ne-LINE_FEED c = before_unended _ c.if-bundle-gt-SHEET_BYTES.false (unended_last _ c.if-bundle-lt1.false c.if-bundle-ne-LINE_FEED.true)
 
 pub returns-then-is_clause : goal.returns-then-is_clause
-returns-then-is_clause c = let ended = ended-last _ c.if-bundle-lt1.false c.if-bundle-ne-LINE_FEED.false in before-none _ c.if-bundle-gt-SHEET_BYTES.false ended (stray_clause _ ended c.if-bundle-lt1.false c.end_of_lem.ensures c.part_before.ensures ∙ ap not (sym c.is_clause_lem.ensures ∙ c.if-is_clause.true))
+returns-then-is_clause c = let ended = ended-last _ c.if-bundle-lt1.false c.if-bundle-ne-LINE_FEED.false in before-none _ c.if-bundle-gt-SHEET_BYTES.false ended (stray_clause _ ended c.if-bundle-lt1.false c.end_of-end.ensures c.part_before.ensures ∙ ap not (sym c.is_clause.ensures ∙ c.if-is_clause.true))
 
 pub returns : goal.returns
-returns c = let ended = ended-last _ c.if-bundle-lt1.false c.if-bundle-ne-LINE_FEED.false in before_stray _ c.if-bundle-gt-SHEET_BYTES.false ended (stray_clause _ ended c.if-bundle-lt1.false c.end_of_lem.ensures c.part_before.ensures ∙ ap not (sym c.is_clause_lem.ensures ∙ c.if-is_clause.false))
+returns c = let ended = ended-last _ c.if-bundle-lt1.false c.if-bundle-ne-LINE_FEED.false in before_stray _ c.if-bundle-gt-SHEET_BYTES.false ended (stray_clause _ ended c.if-bundle-lt1.false c.end_of-end.ensures c.part_before.ensures ∙ ap not (sym c.is_clause.ensures ∙ c.if-is_clause.false))

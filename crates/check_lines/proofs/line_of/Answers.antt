@@ -12,28 +12,25 @@ returns-then-rest-eq0 c =
 
 pub returns-then-end-rest : goal.returns-then-end-rest
 returns-then-end-rest c =
-    let ended = c in
-    let a = ended.args in
-    let ends = ended.end_of_field-end.ensures in
-    simp (c.one_field_lem.ensures, c.field_of-first.ensures, c.field.ensures, ends)
+    let a = c.args in
+    let ends = c.end_of_field-end.ensures in
+    simp (c.one_field.ensures, c.field_of-first.ensures, c.field.ensures, ends)
     (sym (said_one a.code a.rest.now (sym ends ∙ c.if-end-rest.true)))
 
 pub returns-then-last-behind : goal.returns-then-last-behind
 returns-then-last-behind c =
-    let left = c in
-    let first = left in
-    let a = first.args in
-    let ends = first.end_of_field-end.ensures in
-    let rest = left.rest_after-behind.ensures in
+    let a = c.args in
+    let ends = c.end_of_field-end.ensures in
+    let rest = c.rest_after-behind.ensures in
     let cut = rest ∙ ap (λ (n : ℕ). drop n a.rest.now) ends in
     let last = c.end_of_field-last.ensures in
     let whole : NextIsLast (behind a.rest.now) = rw (← cut) (sym last ∙ c.if-last-behind.true) in
     simp (
-      c.two_fields_lem.ensures,
+      c.two_fields.ensures,
       c.read.ensures,
       c.field-then-last-behind.ensures,
-      first.field_of-first.ensures,
-      first.field.ensures,
+      c.field_of-first.ensures,
+      c.field.ensures,
       last,
       rest,
       ends,
@@ -42,11 +39,10 @@ returns-then-last-behind c =
 
 pub returns : goal.returns
 returns c =
-    let ended = c in
-    let a = ended.args in
-    let ends = ended.end_of_field-end.ensures in
+    let a = c.args in
+    let ends = c.end_of_field-end.ensures in
     let cut = c.rest_after-behind.ensures ∙ ap (λ (n : ℕ). drop n a.rest.now) ends in
     let last = c.end_of_field-last.ensures in
     let more : NextIsLast (behind a.rest.now) → ⊥ = rw (← cut) (λ e. c.if-last-behind.false (last ∙ e)) in
     let other : NextIsLast a.rest.now → ⊥ = λ e. c.if-end-rest.false (ends ∙ e) in
-    sym (said_more a.code a.rest.now ended.if-rest-eq0.false other more)
+    sym (said_more a.code a.rest.now c.if-rest-eq0.false other more)

@@ -6,10 +6,10 @@ use Rattle.check_lines.proofs.read_line.Goals as goal
 pub returns : goal.returns
 returns c =
     simp (
-      c.Line-of.ensures,
+      c.Line_of.ensures,
       c.word_code-code.ensures,
       c.part_before-word.ensures,
       c.rest_after-rest.ensures,
-      c.end_of_lem.ensures,
+      c.end_of-end.ensures,
     )
     (sym (line_step_lem c.args.line.now))

@@ -23,4 +23,4 @@ pub returns-in-Malformed-first : goal.returns-in-Malformed-first
 returns-in-Malformed-first c = simp (c.second-1.given.1, c.enum_told-1.given.1)
 
 pub returns-in-Malformed : goal.returns-in-Malformed
-returns-in-Malformed c = simp c.enum_told-in-Malformed-1.given.1 (sym (by-none c.args.first-1))
+returns-in-Malformed c = simp c.enum_told-in-Malformed-1.given.1 (sym (by-none c.args.first))

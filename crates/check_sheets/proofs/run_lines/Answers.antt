@@ -9,7 +9,7 @@ use Rattle.check_sheets.proofs.run_lines.Goals as goal
 
 pub loop-end-init : goal.loop-end-init
 loop-end-init c =
-    going-first _ c.fresh_order-order.ensures c.fresh_counts-counts.ensures c.fresh_places_lem.ensures c.end_of_lem.ensures
+    going-first _ c.fresh_order-order.ensures c.fresh_counts-counts.ensures c.fresh_places-places.ensures c.end_of-end.ensures
 
 pub returns-then-taken-gt0 : goal.returns-then-taken-gt0
 returns-then-taken-gt0 c =
@@ -26,9 +26,8 @@ overflow_add-number c = omega (arith, c.loop-end.invariant.lines, c.requires)
 
 pub loop-end-smaller : goal.loop-end-smaller
 loop-end-smaller c =
-    let test = c in
-    let l = test.loop-end in
-    omega (arith, ap length c.part_after-next.ensures, drop_shorter l.end l.rest.now test.loop-end-test.true)
+    let l = c.loop-end in
+    omega (arith, ap length c.part_after-next.ensures, drop_shorter l.end l.rest.now c.loop-end-test.true)
 
 pub loop-end-preserved : goal.loop-end-preserved
 loop-end-preserved c =

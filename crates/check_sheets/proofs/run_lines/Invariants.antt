@@ -7,7 +7,7 @@ use Rattle.check_sheets.proofs.run_lines.Given as goal
 
 abbrev pub invariant-loop-end : goal.invariant-loop-end
 invariant-loop-end l =
-    Going l.sheet l.order-1 (symbols_of l.counts-1 l.places-1 l.demands-1 l.made-1 l.values-1 l.wants-1 l.due-1 l.goal-1 l.claims-1) l.rest l.end l.number
+    Going l.sheet l.order (symbols_of l.counts l.places l.demands l.made l.values l.wants l.due l.goal l.claims) l.rest l.end l.number
 
 abbrev pub decreases-loop-end : goal.decreases-loop-end
 decreases-loop-end l =

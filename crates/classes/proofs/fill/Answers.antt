@@ -13,7 +13,7 @@ pub loop-x-preserved : goal.loop-x-preserved
 loop-x-preserved c =
     let l = c.loop-x in
     let inside = c.loop-x-test.true in
-    (omega arith, search rules, rw (add-one l.x) (own-next l.entries-1 l.x l.invariant.1 inside l.invariant.2))
+    (omega arith, search rules, rw (add-one l.x) (own-next l.entries l.x l.invariant.1 inside l.invariant.2))
 
 pub returns : goal.returns
-returns c = (let l = c.loop-x in own-end l.entries-1 l.x l.invariant.1 (omega arith) l.invariant.2)
+returns c = (let l = c.loop-x in own-end l.entries l.x l.invariant.1 (omega arith) l.invariant.2)

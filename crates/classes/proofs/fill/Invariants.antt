@@ -8,8 +8,8 @@ use Rattle.classes.proofs.fill.Given as goal
 abbrev pub invariant-loop-x : goal.invariant-loop-x
 invariant-loop-x l =
     (l.x ≤ names)
-    × (length l.entries-1 ≡ names)
-    × ((z : ℕ) → z < l.x → get_or l.entries-1 z 0 ≡ z)
+    × (length l.entries ≡ names)
+    × ((z : ℕ) → z < l.x → get_or l.entries z 0 ≡ z)
 
 abbrev pub decreases-loop-x : goal.decreases-loop-x
 decreases-loop-x l = names - l.x

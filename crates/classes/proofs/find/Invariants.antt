@@ -4,7 +4,7 @@ use Rattle.classes.specs.ParentsLaws.{Walked}
 use Rattle.classes.proofs.find.Given as goal
 
 abbrev pub invariant-loop-parent : goal.invariant-loop-parent
-invariant-loop-parent l = Walked l.initial.parents l.x l.parents l.name l.parent-1
+invariant-loop-parent l = Walked l.initial.parents l.x l.parents l.name l.parent
 
 abbrev pub decreases-loop-parent : goal.decreases-loop-parent
 decreases-loop-parent l = l.name

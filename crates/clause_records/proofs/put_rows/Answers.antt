@@ -5,5 +5,4 @@ use Rattle.clause_records.proofs.put_rows.Goals as goal
 pub returns : goal.returns
 unfolding rows_put
 returns c =
-    let emptied = c in
-    simp (emptied.empty-nothing.ensures, emptied.store.ensures, c.store-2.ensures, c.store-3.ensures)
+    simp (c.empty-nothing.ensures, c.store.ensures, c.store-2.ensures, c.store-3.ensures)

@@ -24,21 +24,19 @@ step_bytes-answer-requires c = c.if-line-gt-SHEET_BYTES.false
 
 pub returns-then-answer-gt0 : goal.returns-then-answer-gt0
 returns-then-answer-gt0 c =
-    let read = c in
     call-refused _ _ _
-    (sym read.is_valid_state.ensures ∙ not-false _ read.if-not-is_valid_state.false)
-    read.if-line-gt-SHEET_BYTES.false
-    read.step_bytes-answer.ensures
+    (sym c.is_valid_state.ensures ∙ not-false _ c.if-not-is_valid_state.false)
+    c.if-line-gt-SHEET_BYTES.false
+    c.step_bytes-answer.ensures
     c.if-answer-gt0.true
     c.refused-then-answer-gt0.ensures
 
 pub returns-then-out-length : goal.returns-then-out-length
 returns-then-out-length c =
-    let read = c in
     call_longer _ _ _
-    (sym read.is_valid_state.ensures ∙ not-false _ read.if-not-is_valid_state.false)
-    read.if-line-gt-SHEET_BYTES.false
-    read.step_bytes-answer.ensures
+    (sym c.is_valid_state.ensures ∙ not-false _ c.if-not-is_valid_state.false)
+    c.if-line-gt-SHEET_BYTES.false
+    c.step_bytes-answer.ensures
     c.if-answer-gt0.false
     (search rules)
     c.put_answer-length.ensures
@@ -47,11 +45,10 @@ returns-then-out-length c =
 
 pub returns : goal.returns
 returns c =
-    let read = c in
     call-written _ _ _
-    (sym read.is_valid_state.ensures ∙ not-false _ read.if-not-is_valid_state.false)
-    read.if-line-gt-SHEET_BYTES.false
-    read.step_bytes-answer.ensures
+    (sym c.is_valid_state.ensures ∙ not-false _ c.if-not-is_valid_state.false)
+    c.if-line-gt-SHEET_BYTES.false
+    c.step_bytes-answer.ensures
     c.if-answer-gt0.false
     (search rules)
     c.put_answer-length.ensures

@@ -10,24 +10,22 @@ returns-then-not-is_valid_state c = last_invalid _ _ (sym c.is_valid_state.ensur
 
 pub returns-then-out-count : goal.returns-then-out-count
 returns-then-out-count c =
-    let put = c in
     last_longer _ _
-    (sym put.is_valid_state.ensures ∙ not-false _ put.if-not-is_valid_state.false)
-    put.max_reg_allocated-registers.ensures
-    put.num_perm_vars-slots.ensures
+    (sym c.is_valid_state.ensures ∙ not-false _ c.if-not-is_valid_state.false)
+    c.max_reg_allocated-registers.ensures
+    c.num_perm_vars-slots.ensures
     (search rules)
-    put.put_end-count.ensures
+    c.put_end-count.ensures
     c.if-out-count.true
 
 pub returns : goal.returns
 returns c =
-    let put = c in
     last_written _ _
-    (sym put.is_valid_state.ensures ∙ not-false _ put.if-not-is_valid_state.false)
-    put.max_reg_allocated-registers.ensures
-    put.num_perm_vars-slots.ensures
+    (sym c.is_valid_state.ensures ∙ not-false _ c.if-not-is_valid_state.false)
+    c.max_reg_allocated-registers.ensures
+    c.num_perm_vars-slots.ensures
     (search rules)
-    put.put_end-count.ensures
+    c.put_end-count.ensures
     c.if-out-count.false
     c.part_before.ensures
     c.put_word.ensures

@@ -3,20 +3,19 @@ use Rattle.event_calls.specs.CallLaws.{line-fits, bytes-open, bytes_more, bytes-
 use Rattle.event_calls.proofs.step_bytes.Goals as goal
 
 pub returns-then-bytes-end : goal.returns-then-bytes-end
-returns-then-bytes-end c = bytes-open _ _ c.end_of_lem.ensures c.if-bytes-end.true c.malformed.ensures
+returns-then-bytes-end c = bytes-open _ _ c.end_of-end.ensures c.if-bytes-end.true c.malformed.ensures
 
 pub returns-then-end-bytes : goal.returns-then-end-bytes
-returns-then-end-bytes c = bytes_more _ _ c.end_of_lem.ensures c.if-end-bytes.true c.malformed-then-end-bytes.ensures
+returns-then-end-bytes c = bytes_more _ _ c.end_of-end.ensures c.if-end-bytes.true c.malformed-then-end-bytes.ensures
 
 pub step_line-requires : goal.step_line-requires
 step_line-requires c =
-    let start = c in
-    line-fits start.args.bytes.now c.end_of_lem.ensures c.part_before.ensures start.requires
+    line-fits c.args.bytes.now c.end_of-end.ensures c.part_before.ensures c.requires
 
 pub returns : goal.returns
 returns c =
     bytes-line _ _
-    c.end_of_lem.ensures
+    c.end_of-end.ensures
     c.if-bytes-end.false
     c.if-end-bytes.false
     c.part_before.ensures

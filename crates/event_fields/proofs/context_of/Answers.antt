@@ -13,18 +13,15 @@ returns-in-104 c = simp (same_letter (byte "h") refl, ← c.only_byte.ensures, c
 pub returns-in-109 : goal.returns-in-109
 unfolding context_of
 returns-in-109 c =
-    let number = c in
-    let letter = number in
-    let whole = letter in
     simp (
       same_letter (byte "h") refl,
       same_letter (byte "m") refl,
-      ← whole.only_byte.ensures,
-      ne_eqb _ _ letter.in_default.rest.1,
-      ← letter.part_before.ensures,
-      ← letter.only_byte-letter.ensures,
-      ← number.part_after.ensures,
-      ← number.read-chunk.ensures,
+      ← c.only_byte.ensures,
+      ne_eqb _ _ c.in_default.rest.1,
+      ← c.part_before.ensures,
+      ← c.only_byte-letter.ensures,
+      ← c.part_after.ensures,
+      ← c.read-chunk.ensures,
       c.in_default-letter.keys1,
       c.in_mid.ensures,
     )
@@ -32,19 +29,16 @@ returns-in-109 c =
 pub returns-in-108 : goal.returns-in-108
 unfolding context_of
 returns-in-108 c =
-    let number = c in
-    let letter = number in
-    let whole = letter in
     simp (
       same_letter (byte "h") refl,
       same_letter (byte "m") refl,
       same_letter (byte "l") refl,
-      ← whole.only_byte.ensures,
-      ne_eqb _ _ letter.in_default.rest.1,
-      ← letter.part_before.ensures,
-      ← letter.only_byte-letter.ensures,
-      ← number.part_after.ensures,
-      ← number.read-chunk.ensures,
+      ← c.only_byte.ensures,
+      ne_eqb _ _ c.in_default.rest.1,
+      ← c.part_before.ensures,
+      ← c.only_byte-letter.ensures,
+      ← c.part_after.ensures,
+      ← c.read-chunk.ensures,
       c.in_default-letter.keys2,
       c.in_last.ensures,
     )
@@ -52,19 +46,16 @@ returns-in-108 c =
 pub returns-in_default-letter : goal.returns-in_default-letter
 unfolding context_of
 returns-in_default-letter c =
-    let number = c in
-    let letter = number in
-    let whole = letter in
     simp (
       same_letter (byte "h") refl,
       same_letter (byte "m") refl,
       same_letter (byte "l") refl,
-      ← whole.only_byte.ensures,
-      ne_eqb _ _ letter.in_default.rest.1,
-      ← letter.part_before.ensures,
-      ← letter.only_byte-letter.ensures,
-      ← number.part_after.ensures,
-      ← number.read-chunk.ensures,
+      ← c.only_byte.ensures,
+      ne_eqb _ _ c.in_default.rest.1,
+      ← c.part_before.ensures,
+      ← c.only_byte-letter.ensures,
+      ← c.part_after.ensures,
+      ← c.read-chunk.ensures,
       ne_eqb _ _ c.in_default-letter.rest.0.1,
       ne_eqb _ _ c.in_default-letter.rest.1,
     )

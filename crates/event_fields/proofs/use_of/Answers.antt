@@ -6,14 +6,13 @@ use Rattle.event_fields.proofs.use_of.Goals as goal
 pub returns : goal.returns
 unfolding use_of
 returns c =
-    let coloned = c in
     simp (
       c.coded.ensures,
       c.context_of-context.ensures,
       c.part_before-place.ensures,
       c.read-register.ensures,
       c.part_after-number.ensures,
-      coloned.end_of_lem.ensures,
+      c.end_of-end.ensures,
       take-before,
       drop-before,
     )

@@ -30,5 +30,5 @@ returns-in_default c =
     let a = c.args in
     let k = c.in_default.rest in (
       simp (ne_eqb _ _ k.1, ne_eqb _ _ k.0.1, ne_eqb _ _ k.0.0.1),
-      put_no_entries a.code (fields_left tab a.rest.now) a.list-1.now (λ l. omega (arith, k)),
+      put_no_entries a.code (fields_left tab a.rest.now) a.list.now (λ l. omega (arith, k)),
     )

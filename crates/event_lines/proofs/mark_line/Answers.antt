@@ -6,22 +6,19 @@ use Rattle.event_lines.proofs.mark_line.Goals as goal
 pub returns : goal.returns
 returns c =
     let a = c.args in
-    let third = c in
-    let second = third in
-    let first = second in
     simp (
       c.marked.ensures,
       c.context_of-context.ensures,
       c.level_of-level.ensures,
       c.target_of-target.ensures,
-      third.rest_after-behind.ensures,
-      third.field-context_field.ensures,
-      third.end_of_field-context_end.ensures,
-      second.rest_after-from_context.ensures,
-      second.field-level_field.ensures,
-      second.end_of_field-level_end.ensures,
-      first.rest_after-from_level.ensures,
-      first.field-target_field.ensures,
-      first.end_of_field-target_end.ensures,
+      c.rest_after-behind.ensures,
+      c.field-context_field.ensures,
+      c.end_of_field-context_end.ensures,
+      c.rest_after-from_context.ensures,
+      c.field-level_field.ensures,
+      c.end_of_field-level_end.ensures,
+      c.rest_after-from_level.ensures,
+      c.field-target_field.ensures,
+      c.end_of_field-target_end.ensures,
     )
     (sym (mark_step a.code a.rest.now))

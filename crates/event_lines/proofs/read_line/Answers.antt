@@ -9,19 +9,19 @@ unfolding line_says line_list
 returns c =
     let line = c.args.line.now in (
       simp (
-        c.Line-of.ensures.0,
+        c.Line_of.ensures.0,
         c.word_code-code.ensures,
         c.part_before-word.ensures,
         c.rest_after-rest.ensures,
-        c.end_of_lem.ensures,
+        c.end_of-end.ensures,
       )
           (sym (line_step_lem line)),
       simp (
-        c.Line-of.ensures.1,
+        c.Line_of.ensures.1,
         c.word_code-code.ensures,
         c.part_before-word.ensures,
         c.rest_after-rest.ensures,
-        c.end_of_lem.ensures,
+        c.end_of-end.ensures,
         line_list-step line,
       ),
     )

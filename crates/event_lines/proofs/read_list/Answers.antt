@@ -26,8 +26,8 @@ returns-in_default c =
     let part = c.field-part.ensures ∙ ap (λ (k : ℕ). take (k - 1) (drop 1 left)) c.end_of_field-end.ensures in
     let none = sym (ap (entry_of a.entries) part) ∙ sym c.entry_of-entry.ensures ∙ c.enum_told-1.given.1 in (
       sym (counted-not _ _ (l.invariant.1 ∙ all_not a.entries a.mark left some none)),
-      sym (put-none l.list-1 l.count)
-          ∙ ap (printed l.list-1 l.count) (sym (leading-not a.entries a.mark left some none))
+      sym (put-none l.list l.count)
+          ∙ ap (printed l.list l.count) (sym (leading-not a.entries a.mark left some none))
           ∙ l.invariant.3,
     )
 
@@ -53,8 +53,8 @@ loop-left-preserved c =
       omega (arith, left_shorter a.mark left some),
       l.invariant.1 ∙ all_more a.entries a.mark left some n one,
       omega (arith, ap length (left_some a.mark left some)),
-      put_more l.list-1 l.count n _ c.put_entry.ensures
-          ∙ ap (printed l.list-1 l.count) (sym (leading_more a.entries a.mark left some n one))
+      put_more l.list l.count n _ c.put_entry.ensures
+          ∙ ap (printed l.list l.count) (sym (leading_more a.entries a.mark left some n one))
           ∙ l.invariant.3,
       search rules,
     )
@@ -67,7 +67,7 @@ returns c =
     let empty : length left ≡ 0 = omega arith in
     let count : l.count ≡ length (fields_left a.mark a.rest.now) = omega (arith, ap length (left_none a.mark left empty)) in (
       ap of_count count ∙ sym (counted_all _ _ (l.invariant.1 ∙ all_none a.entries a.mark left empty)),
-      sym (put-none l.list-1 l.count)
-          ∙ ap (printed l.list-1 l.count) (sym (leading-none a.entries a.mark left empty))
+      sym (put-none l.list l.count)
+          ∙ ap (printed l.list l.count) (sym (leading-none a.entries a.mark left empty))
           ∙ l.invariant.3,
     )

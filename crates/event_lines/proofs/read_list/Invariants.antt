@@ -13,8 +13,8 @@ invariant-loop-left l =
     (l.count + length l.left ≤ length l.rest)
     × (all_entries l.entries (fields_left l.mark l.rest) ≡ all_entries l.entries (fields_left l.mark l.left))
     × (length (fields_left l.mark l.rest) ≡ l.count + length (fields_left l.mark l.left))
-    × (printed l.list-1 l.count (leading l.entries (fields_left l.mark l.left)) ≡ printed l.initial.list-1 0 (leading l.entries (fields_left l.mark l.rest)))
-    × (length l.list-1 ≡ length l.initial.list-1)
+    × (printed l.list l.count (leading l.entries (fields_left l.mark l.left)) ≡ printed l.initial.list 0 (leading l.entries (fields_left l.mark l.rest)))
+    × (length l.list ≡ length l.initial.list)
 
 abbrev pub decreases-loop-left : goal.decreases-loop-left
 decreases-loop-left l = length l.left

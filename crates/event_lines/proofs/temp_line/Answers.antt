@@ -6,27 +6,26 @@ use Rattle.event_lines.proofs.temp_line.Goals as goal
 pub returns : goal.returns
 returns c =
     let rest = c.args.rest.now in
-    let second = c in
-    let first = c in (
+    (
       simp (
         c.recorded.ensures,
         c.read_uses-uses.ensures.0,
         c.read-occurrences.ensures,
         c.context_of-context.ensures,
-        second.rest_after-from_uses.ensures,
-        second.field-count_field.ensures,
-        second.end_of_field-count_end.ensures,
-        first.rest_after-from_count.ensures,
-        first.field-context_field.ensures,
-        first.end_of_field-context_end.ensures,
+        c.rest_after-from_uses.ensures,
+        c.field-count_field.ensures,
+        c.end_of_field-count_end.ensures,
+        c.rest_after-from_count.ensures,
+        c.field-context_field.ensures,
+        c.end_of_field-context_end.ensures,
       )
           (sym (temp_step rest)),
       simp (
         c.read_uses-uses.ensures.1,
-        second.rest_after-from_uses.ensures,
-        second.end_of_field-count_end.ensures,
-        first.rest_after-from_count.ensures,
-        first.end_of_field-context_end.ensures,
+        c.rest_after-from_uses.ensures,
+        c.end_of_field-count_end.ensures,
+        c.rest_after-from_count.ensures,
+        c.end_of_field-context_end.ensures,
         temp_list-step rest,
       ),
     )

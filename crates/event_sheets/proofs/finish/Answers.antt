@@ -9,14 +9,12 @@ returns-then-left-gt0 c = told-refused _ _ _ _ _ _ c.if-left-gt0.true
 
 pub overflow_add-result : goal.overflow_add-result
 overflow_add-result c =
-    let a = c in
-    search (rules, a.add_end-adding.ensures.counted, end_short a.max_reg_allocated-registers.result a.num_perm_vars-slots.result)
+    search (rules, c.add_end-adding.ensures.counted, end_short c.max_reg_allocated-registers.result c.num_perm_vars-slots.result)
 
 pub returns : goal.returns
 returns c =
-    let a = c in
     told-ended _ _ _ _ _ _
-    a.if-left-gt0.false
-    a.max_reg_allocated-registers.ensures
-    a.num_perm_vars-slots.ensures
-    a.add_end-adding.ensures
+    c.if-left-gt0.false
+    c.max_reg_allocated-registers.ensures
+    c.num_perm_vars-slots.ensures
+    c.add_end-adding.ensures

@@ -13,7 +13,7 @@ use Rattle.event_sheets.specs.RunningLaws.{going-first, going-last, going-refuse
 use Rattle.event_sheets.proofs.run_lines.Goals as goal
 
 pub loop-end-init : goal.loop-end-init
-loop-end-init c = (going-first _ _ _ c.fresh-fresh.ensures c.end_of_lem.ensures, c.requires.1, refl)
+loop-end-init c = (going-first _ _ _ c.fresh-fresh.ensures c.end_of-end.ensures, c.requires.1, refl)
 
 pub carry_line-acted-requires : goal.carry_line-acted-requires
 carry_line-acted-requires c =

@@ -9,9 +9,9 @@ use Rattle.event_sheets.proofs.run_lines.Given as goal
 
 abbrev pub invariant-loop-end : goal.invariant-loop-end
 invariant-loop-end l =
-    Going l.sheet l.initial.out-1 l.from (state_of l.counters-1 l.records-1 l.use_sets-1 l.use_counts-1 l.no_use-1 l.conflict-1 l.mappings-1 l.freed_registers-1 l.freed_slots-1 l.branch_rows-1 l.branch_sets-1) l.rest l.end l.number l.length l.at l.out-1
-    × (length l.rest ≤ length l.initial.list-1)
-    × (length l.list-1 ≡ length l.initial.list-1)
+    Going l.sheet l.initial.out l.from (state_of l.counters l.records l.use_sets l.use_counts l.no_use l.conflict l.mappings l.freed_registers l.freed_slots l.branch_rows l.branch_sets) l.rest l.end l.number l.length l.at l.out
+    × (length l.rest ≤ length l.initial.list)
+    × (length l.list ≡ length l.initial.list)
 
 abbrev pub decreases-loop-end : goal.decreases-loop-end
 decreases-loop-end l =

@@ -4,11 +4,11 @@ use Rattle.events.proofs.refusal_by_size.Goals as goal
 
 pub returns-in-true-is_full : goal.returns-in-true-is_full
 unfolding refusal_by_size
-returns-in-true-is_full c = simp (← c.is_in_size.ensures, c.if-is_in_size.true, ← c.is_full_lem.ensures, c.if-is_full.true)
+returns-in-true-is_full c = simp (← c.is_in_size.ensures, c.if-is_in_size.true, ← c.is_full.ensures, c.if-is_full.true)
 
 pub returns-in-false-is_full : goal.returns-in-false-is_full
 unfolding refusal_by_size
-returns-in-false-is_full c = simp (← c.is_in_size.ensures, c.if-is_in_size.true, ← c.is_full_lem.ensures, c.if-is_full.false)
+returns-in-false-is_full c = simp (← c.is_in_size.ensures, c.if-is_in_size.true, ← c.is_full.ensures, c.if-is_full.false)
 
 pub returns-in-false : goal.returns-in-false
 unfolding refusal_by_size

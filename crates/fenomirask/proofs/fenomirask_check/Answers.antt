@@ -10,12 +10,10 @@ use Rattle.fenomirask.proofs.fenomirask_check.Goals as goal
 
 pub number_of-requires : goal.number_of-requires
 number_of-requires c =
-    let answered = c in
-    let start = answered in
-    check_fits start.args.sheet.now _ (omega (arith, start.well-formed.1.0.1)) answered.answer-answered.ensures.right answered.answer-answered.ensures.holds.0
+    check_fits c.args.sheet.now _ (omega (arith, c.well_formed.1.0.1)) c.answer-answered.ensures.right c.answer-answered.ensures.holds.0
 
 pub returns : goal.returns
 returns c =
     by-verdict_so
     c.answer-answered.ensures
-    (λ right answered. (read_back c.number_of.type-inv (c.number_of.ensures ∙ ap number_of answered.0), answered.1))
+    (λ right answered. (read_back c.number_of.type_inv (c.number_of.ensures ∙ ap number_of answered.0), answered.1))

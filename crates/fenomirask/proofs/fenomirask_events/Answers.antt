@@ -9,11 +9,9 @@ use Rattle.fenomirask.proofs.fenomirask_events.Goals as goal
 
 pub number_of-requires : goal.number_of-requires
 number_of-requires c =
-    let answered = c in
-    let start = answered in
-    events_fits start.args.sheet.now _ (omega (arith, start.well-formed.1.0.1)) answered.answer-answered.ensures.0
+    events_fits c.args.sheet.now _ (omega (arith, c.well_formed.1.0.1)) c.answer-answered.ensures.0
 
 pub returns : goal.returns
 returns c =
     let answered = c.answer-answered.ensures in
-    (read_back c.number_of.type-inv (c.number_of.ensures ∙ ap number_of answered.0), answered.1)
+    (read_back c.number_of.type_inv (c.number_of.ensures ∙ ap number_of answered.0), answered.1)

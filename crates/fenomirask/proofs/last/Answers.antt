@@ -9,11 +9,9 @@ use Rattle.fenomirask.proofs.last.Goals as goal
 
 pub number_of-requires : goal.number_of-requires
 number_of-requires c =
-    let answered = c in
-    let start = answered in
-    last_fits start.args.state _ (omega (arith, start.well-formed.1.0.1)) answered.put_last-answered.ensures.0
+    last_fits c.args.state _ (omega (arith, c.well_formed.1.0.1)) c.put_last-answered.ensures.0
 
 pub returns : goal.returns
 returns c =
     let answered = c.put_last-answered.ensures in
-    (read_back c.number_of.type-inv (c.number_of.ensures ∙ ap number_of answered.0), answered.1)
+    (read_back c.number_of.type_inv (c.number_of.ensures ∙ ap number_of answered.0), answered.1)

@@ -13,9 +13,9 @@ pub signed_refusal-requires : goal.signed_refusal-requires
 signed_refusal-requires c = subst Fits c.answered-in-Refused-1.given.1 c.requires
 
 pub returns-in-Written : goal.returns-in-Written
-returns-in-Written c = read_back c.signed.type-inv (c.signed.ensures ∙ sym (ap number_of c.answered-1.given.1))
+returns-in-Written c = read_back c.signed.type_inv (c.signed.ensures ∙ sym (ap number_of c.answered-1.given.1))
 
 pub returns-in-Refused : goal.returns-in-Refused
 returns-in-Refused c =
-    read_back c.signed_refusal.type-inv
+    read_back c.signed_refusal.type_inv
     (c.signed_refusal.ensures ∙ sym (ap number_of c.answered-in-Refused-1.given.1))

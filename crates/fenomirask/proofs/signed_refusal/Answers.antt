@@ -11,13 +11,13 @@ use Rattle.fenomirask.proofs.signed_refusal.Goals as goal
 
 -- what is taken from 0
 negated :
-    (c : tie.After-signed)
+    (c : tie.After_signed)
     → pos 0 -ℤ to_z w64 (of_z w64 c.signed-told.result) ≡ neg_ℤ (pos (16 * c.args.line + c.args.refusal))
 negated c =
-    ap (λ (z : ℤ). pos 0 -ℤ z) (read_back c.signed-told.type-inv c.signed-told.ensures)
+    ap (λ (z : ℤ). pos 0 -ℤ z) (read_back c.signed-told.type_inv c.signed-told.ensures)
     ∙ from_zero (16 * c.args.line + c.args.refusal)
 
-fits : (c : tie.After-signed) → SFits w64 (pos 0 -ℤ to_z w64 (of_z w64 c.signed-told.result))
+fits : (c : tie.After_signed) → SFits w64 (pos 0 -ℤ to_z w64 (of_z w64 c.signed-told.result))
 fits c =
     subst (SFits w64) (sym (negated c))
     (negated_fits (16 * c.args.line + c.args.refusal) (omega arith))

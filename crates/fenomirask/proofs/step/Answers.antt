@@ -10,15 +10,13 @@ use Rattle.fenomirask.proofs.step.Goals as goal
 
 pub number_of-number-requires : goal.number_of-number-requires
 number_of-number-requires c =
-    let call = c in
-    let start = call in
-    call_fits start.args.state _ (omega (arith, start.well-formed.1.1.0.1)) start.args.line.now
-    (ap (λ (k : Called). k.answered) call.call-called.ensures.0)
+    call_fits c.args.state _ (omega (arith, c.well_formed.1.1.0.1)) c.args.line.now
+    (ap (λ (k : Called). k.answered) c.call-called.ensures.0)
 
 pub returns : goal.returns
 returns c =
     let call = c.call-called.ensures in (
-      read_back c.number_of-number.type-inv (c.number_of-number.ensures ∙ ap (λ (k : Called). number_of k.answered) call.0),
+      read_back c.number_of-number.type_inv (c.number_of-number.ensures ∙ ap (λ (k : Called). number_of k.answered) call.0),
       ap (λ (k : Called). k.state) call.0,
       call.1,
     )

@@ -9,9 +9,9 @@ pub overflow_add-result : goal.overflow_add-result
 overflow_add-result c =
     let a = c.args in
     let fields = drop 1 a.rest.now in
-    let found = simp c.part_after-fields.ensures at c.end_of_lem.ensures in
+    let found = simp c.part_after-fields.ensures at c.end_of.ensures in
     omega (arith, before_le a.mark fields, length-drop 1 a.rest.now)
 
 pub returns : goal.returns
 unfolding field_end
-returns c = simp (c.end_of_lem.ensures, c.part_after-fields.ensures)
+returns c = simp (c.end_of.ensures, c.part_after-fields.ensures)

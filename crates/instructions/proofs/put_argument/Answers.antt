@@ -4,7 +4,6 @@ use Rattle.instructions.proofs.put_argument.Goals as goal
 
 pub returns : goal.returns
 returns c =
-    let printed = c in
     put_then
-    (put_then printed.put_byte-next.ensures printed.put_number-end.ensures)
+    (put_then c.put_byte-next.ensures c.put_number-end.ensures)
     c.put_byte.ensures

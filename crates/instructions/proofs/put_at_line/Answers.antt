@@ -7,7 +7,6 @@ use Rattle.instructions.proofs.put_at_line.Goals as goal
 pub returns : goal.returns
 unfolding at_text line joined
 returns c =
-    let placed = c in
     put_then
-    (put_then placed.put_word-named.ensures placed.put_place-placed.ensures)
+    (put_then c.put_word-named.ensures c.put_place-placed.ensures)
     c.put_byte.ensures

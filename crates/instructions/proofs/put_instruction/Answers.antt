@@ -8,30 +8,25 @@ use Rattle.instructions.specs.InstructionsLaws.{text-by-number, number-has-word,
 use Rattle.instructions.proofs.put_instruction.Goals as goal
 
 pub put_name-named-requires : goal.put_name-named-requires
-put_name-named-requires c = rw c.code_of_lem.ensures (number-has-word c.args.instruction)
+put_name-named-requires c = rw c.code_of-code.ensures (number-has-word c.args.instruction)
 
 pub returns-in-0-to-4 : goal.returns-in-0-to-4
 returns-in-0-to-4 c =
-    let placed = c in
-    let named = placed in
-    let coded = named.code_of_lem in
+    let coded = c.code_of-code in
     rw (text-by-number, ← coded.ensures, line_with_argument coded.result (omega arith))
     (put_then
-    (put_then named.put_name-named.ensures placed.put_place-placed.ensures)
+    (put_then c.put_name-named.ensures c.put_place-placed.ensures)
     c.put_argument.ensures)
 
 pub returns-in-5-to-10 : goal.returns-in-5-to-10
 returns-in-5-to-10 c =
-    let placed = c in
-    let named = placed in
-    let coded = named.code_of_lem in
+    let coded = c.code_of-code in
     rw (text-by-number, ← coded.ensures, line-without_argument coded.result (omega arith))
     (put_then
-    (put_then named.put_name-named.ensures placed.put_place-placed.ensures)
+    (put_then c.put_name-named.ensures c.put_place-placed.ensures)
     c.put_byte.ensures)
 
 pub returns-in_default : goal.returns-in_default
 returns-in_default c =
-    let coded = c in
-    let has : coded.code_of_lem.result.number < length words = rw coded.code_of_lem.ensures (number-has-word coded.args.instruction) in
+    let has : c.code_of-code.result.number < length words = rw c.code_of-code.ensures (number-has-word c.args.instruction) in
     absurd (omega (arith, has))

@@ -4,7 +4,7 @@ use lib.ListN.{length}
 use Rattle.leaves.proofs.show_fields.Given as goal
 
 abbrev pub invariant-loop-rest : goal.invariant-loop-rest
-invariant-loop-rest l = length l.out-1 ≡ length l.initial.out-1
+invariant-loop-rest l = length l.out ≡ length l.initial.out
 
 abbrev pub decreases-loop-rest : goal.decreases-loop-rest
 decreases-loop-rest l = length l.rest

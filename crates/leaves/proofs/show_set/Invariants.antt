@@ -5,7 +5,7 @@ use lib.ListN.{length}
 use Rattle.leaves.proofs.show_set.Given as goal
 
 abbrev pub invariant-loop-r : goal.invariant-loop-r
-invariant-loop-r l = length l.out-1 ≡ length l.initial.out-1
+invariant-loop-r l = length l.out ≡ length l.initial.out
 
 abbrev pub decreases-loop-r : goal.decreases-loop-r
 decreases-loop-r l = 64 - l.r

@@ -11,5 +11,4 @@ returns-then-reached-gt0 c = simp (← c.instruct-reached.ensures, lt-ltb _ _ c.
 pub returns : goal.returns
 unfolding reserved_marked
 returns c =
-    let reached = c in
-    reserved_finished _ _ _ _ _ _ reached.instruct-reached.ensures reached.if-reached-gt0.false c.finish.ensures
+    reserved_finished _ _ _ _ _ _ c.instruct-reached.ensures c.if-reached-gt0.false c.finish.ensures

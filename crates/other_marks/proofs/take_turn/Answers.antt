@@ -10,4 +10,4 @@ returns-then-emptied-gt0 c = simp (← c.empty_in_last_goal-emptied.ensures, lt-
 
 pub returns : goal.returns
 unfolding turn_taken advanced_by
-returns c = simp (← c.empty_in_last_goal-emptied.ensures, le-ltb _ _ c.if-emptied-gt0.false, ← c.counter_after_lem.ensures, c.going.ensures)
+returns c = simp (← c.empty_in_last_goal-emptied.ensures, le-ltb _ _ c.if-emptied-gt0.false, ← c.counter_after.ensures, c.going.ensures)

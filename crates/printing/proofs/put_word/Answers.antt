@@ -8,10 +8,10 @@ use Rattle.printing.specs.PrintingLaws.{put-nothing, put_past, put_then, put-len
 use Rattle.printing.proofs.put_word.Goals as goal
 
 pub returns-then-out-at : goal.returns-then-out-at
-returns-then-out-at c = let a = c.args in put_past a.out-1.now a.at a.word.now (omega arith) (omega arith)
+returns-then-out-at c = let a = c.args in put_past a.out.now a.at a.word.now (omega arith) (omega arith)
 
 pub loop-i-init : goal.loop-i-init
-loop-i-init c = let a = c.args in (omega arith, put-nothing a.out-1.now a.at c.if-out-at.false)
+loop-i-init c = let a = c.args in (omega arith, put-nothing a.out.now a.at c.if-out-at.false)
 
 pub loop-i-preserved : goal.loop-i-preserved
 loop-i-preserved c =

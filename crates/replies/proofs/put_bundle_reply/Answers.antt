@@ -4,12 +4,10 @@ use Rattle.replies.proofs.put_bundle_reply.Goals as goal
 
 pub put_told-requires : goal.put_told-requires
 put_told-requires c =
-    let answered = c in
-    let a = answered.args in
-    bundle_printable a.bundle.now a.out-1.now answered.answer-answered.ensures.0
+    let a = c.args in
+    bundle_printable a.bundle.now a.out.now c.answer-answered.ensures.0
 
 pub returns : goal.returns
 returns c =
-    let answered = c in
-    let a = answered.args in
-    bundle-put a.bundle.now a.out-1.now answered.answer-answered.ensures.0 answered.answer-answered.ensures.1 c.put_told.ensures
+    let a = c.args in
+    bundle-put a.bundle.now a.out.now c.answer-answered.ensures.0 c.answer-answered.ensures.1 c.put_told.ensures

@@ -5,14 +5,12 @@ use Rattle.replies.proofs.put_check_reply.Goals as goal
 
 pub put_told-requires : goal.put_told-requires
 put_told-requires c =
-    let answered = c in
-    let a = answered.args in
-    check_printable a.sheet.now a.out-1.now answered.answer-answered.ensures.right answered.answer-answered.ensures.holds.0
+    let a = c.args in
+    check_printable a.sheet.now a.out.now c.answer-answered.ensures.right c.answer-answered.ensures.holds.0
 
 pub returns : goal.returns
 returns c =
-    let answered = c in
-    let a = answered.args in
+    let a = c.args in
     by-verdict_so
-    answered.answer-answered.ensures
-    (λ right by. check_put a.sheet.now a.out-1.now right by.0 by.1 c.put_told.ensures)
+    c.answer-answered.ensures
+    (λ right by. check_put a.sheet.now a.out.now right by.0 by.1 c.put_told.ensures)

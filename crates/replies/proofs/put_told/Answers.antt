@@ -5,8 +5,7 @@ use Rattle.replies.proofs.put_told.Goals as goal
 
 pub overflow_cast-line : goal.overflow_cast-line
 overflow_cast-line c =
-    let known = c in
-    search (rules, refused_printable known.answered-in-Refused-1.given.1 known.requires)
+    search (rules, refused_printable c.answered-in-Refused-1.given.1 c.requires)
 
 pub returns-in-Written : goal.returns-in-Written
 returns-in-Written c = written-told c.answered-1.given.1 _

@@ -9,4 +9,4 @@ returns-then-reached-gt0 c = simp (lt-ltb _ _ c.if-reached-gt0.true)
 
 pub returns : goal.returns
 unfolding advanced_by
-returns c = simp (le-ltb _ _ c.if-reached-gt0.false, ← c.counter_after_lem.ensures, c.going.ensures)
+returns c = simp (le-ltb _ _ c.if-reached-gt0.false, ← c.counter_after.ensures, c.going.ensures)

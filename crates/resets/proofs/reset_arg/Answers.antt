@@ -2,4 +2,4 @@
 use Rattle.resets.proofs.reset_arg.Goals as goal
 
 pub returns : goal.returns
-returns c = simp c.counter_after_lem.ensures
+returns c = simp c.counter_after.ensures

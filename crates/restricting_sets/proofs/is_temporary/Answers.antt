@@ -6,4 +6,4 @@ use Rattle.restricting_sets.proofs.is_temporary.Goals as goal
 
 pub returns : goal.returns
 unfolding is_temporary
-returns c = c.is_chunk.ensures ∙ ap is_chunk c.chunk_of_lem.ensures
+returns c = c.is_chunk.ensures ∙ ap is_chunk c.chunk_of.ensures

@@ -19,7 +19,6 @@ loop-i-preserved c =
 pub returns : goal.returns
 returns c =
     let l = c.loop-i in
-    let start = c in
     l.invariant
     ∙ with_all _ _ l.i c.loop-i-test.false
-    ∙ ap (λ use_set. last_uses use_set start.args.chunk) start.uses_of-use_set.ensures
+    ∙ ap (λ use_set. last_uses use_set c.args.chunk) c.uses_of-use_set.ensures

@@ -19,15 +19,14 @@ loop-u-init c = (omega arith, below_none _ _ _ _ _ (omega arith))
 pub loop-u-preserved : goal.loop-u-preserved
 loop-u-preserved c =
     let l = c.loop-u in
-    let start = c in
-    let v = start.args.v in
+    let v = c.args.v in
     let temporary = sym c.is_temporary-in-loop-u.ensures in (
       omega arith,
       rw (add-one l.u)
           (⊎_elim
           (λ w. w.4
           ∙ w.3.ensures
-          ∙ ap₂ (λ last own. with_last l.set last own l.u v) (w.2.ensures ∙ ap (last_uses _) w.1.ensures) start.used_registers-own.ensures
+          ∙ ap₂ (λ last own. with_last l.set last own l.u v) (w.2.ensures ∙ ap (last_uses _) w.1.ensures) c.used_registers-own.ensures
           ∙ below-temporary _ _ _ v _ l.u l.set l.invariant.1 (temporary ∙ w.0.taken))
           (λ w. w.1 ∙ below_permanent _ _ _ v _ l.u l.set l.invariant.1 (temporary ∙ w.0.left))
           c.if-is_temporary.branch),

@@ -13,12 +13,10 @@ loop-v-init c = (omega arith, anew_none _ _, anew_none _ _)
 
 pub loop-v-preserved : goal.loop-v-preserved
 loop-v-preserved c =
-    let stored = c in
-    let loaded = stored in
-    let inside = loaded.loop-v-test.true in
-    let l = loaded.loop-v in (
+    let inside = c.loop-v-test.true in
+    let l = c.loop-v in (
       omega arith,
-      anew_next _ _ l.v inside l.invariant.1 loaded.load-no_use_set.ensures stored.no_use_of-restricted.ensures stored.store.ensures,
+      anew_next _ _ l.v inside l.invariant.1 c.load-no_use_set.ensures c.no_use_of-restricted.ensures c.store.ensures,
       anew_next _ _ l.v inside l.invariant.2 c.load-conflict_set.ensures c.conflict_of-conflicting.ensures c.store-in-loop-v.ensures,
     )
 

@@ -2,4 +2,4 @@
 use Rattle.steps.proofs.begun.Goals as goal
 
 pub returns : goal.returns
-returns c = simp (← c.kind_of.ensures, c.goal_after_lem.ensures)
+returns c = simp (← c.kind_of.ensures, c.goal_after.ensures)

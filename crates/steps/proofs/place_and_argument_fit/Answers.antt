@@ -2,4 +2,4 @@
 use Rattle.steps.proofs.place_and_argument_fit.Goals as goal
 
 pub returns : goal.returns
-returns c = simp (← c.place_fits_lem.ensures, ← c.is_register.ensures, c.both.ensures)
+returns c = simp (← c.place_fits.ensures, ← c.is_register.ensures, c.both.ensures)

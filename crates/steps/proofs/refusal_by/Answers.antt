@@ -4,13 +4,13 @@ use Rattle.steps.proofs.refusal_by.Goals as goal
 
 pub returns-in-true : goal.returns-in-true
 unfolding refusal_by
-returns-in-true c = simp (← c.breaks_order_lem.ensures, c.if-breaks_order.true)
+returns-in-true c = simp (← c.breaks_order.ensures, c.if-breaks_order.true)
 
 pub returns-in-true-overfills : goal.returns-in-true-overfills
 unfolding refusal_by
 returns-in-true-overfills c =
     simp (
-      ← c.breaks_order_lem.ensures,
+      ← c.breaks_order.ensures,
       c.if-breaks_order.false,
       ← c.fits2.ensures,
       c.if-fits.true,
@@ -22,7 +22,7 @@ pub returns-in-false-overfills : goal.returns-in-false-overfills
 unfolding refusal_by
 returns-in-false-overfills c =
     simp (
-      ← c.breaks_order_lem.ensures,
+      ← c.breaks_order.ensures,
       c.if-breaks_order.false,
       ← c.fits2.ensures,
       c.if-fits.true,
@@ -34,7 +34,7 @@ pub returns-in-false-fits : goal.returns-in-false-fits
 unfolding refusal_by
 returns-in-false-fits c =
     simp (
-      ← c.breaks_order_lem.ensures,
+      ← c.breaks_order.ensures,
       c.if-breaks_order.false,
       ← c.fits2.ensures,
       c.if-fits.false,

@@ -27,4 +27,4 @@ returns c =
     let l = c.loop-r in
     let a = c.args in
     let all : l.r ≡ registers = omega arith in
-    l.invariant.1 ∙ ap (λ r. spoilt_up_to a.call r a.places-1.now) all
+    l.invariant.1 ∙ ap (λ r. spoilt_up_to a.call r a.places.now) all

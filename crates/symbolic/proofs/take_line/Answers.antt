@@ -7,20 +7,15 @@ returns-then-order c = rw c.with_refusal.ensures (taken_late _ _ _ c.if-order.tr
 
 pub returns-then-judged-gt0 : goal.returns-then-judged-gt0
 returns-then-judged-gt0 c =
-    let judging = c in
     rw c.with_refusal-then-judged-gt0.ensures
-    (taken_refused _ _ _ judging.judge-judged.ensures judging.if-order.false c.if-judged-gt0.true)
+    (taken_refused _ _ _ c.judge-judged.ensures c.if-order.false c.if-judged-gt0.true)
 
 pub carry-after-requires : goal.carry-after-requires
 carry-after-requires c =
-    let refusing = c in
-    let judging = refusing in
-    let judges = judging.judge-judged.ensures in
-    (judged_few _ _ judges judging.if-order.false, judged-fits _ _ judges refusing.if-judged-gt0.false)
+    let judges = c.judge-judged.ensures in
+    (judged_few _ _ judges c.if-order.false, judged-fits _ _ judges c.if-judged-gt0.false)
 
 pub returns : goal.returns
 returns c =
-    let refusing = c in
-    let judging = refusing in
     rw c.with_refusal-2.ensures
-    (taken-carried _ _ _ judging.judge-judged.ensures judging.if-order.false refusing.if-judged-gt0.false c.carry-after.ensures)
+    (taken-carried _ _ _ c.judge-judged.ensures c.if-order.false c.if-judged-gt0.false c.carry-after.ensures)

@@ -14,10 +14,10 @@ use Rattle.temp_var_data.proofs.populate_conflict_set.Goals as goal
 pub overflow_cast-use_set : goal.overflow_cast-use_set
 overflow_cast-use_set c =
     let a = c.args in
-    omega (arith, ap length c.uses_of-use_set.ensures, uses_le a.use-sets.now a.use-counts.now a.v)
+    omega (arith, ap length c.uses_of-use_set.ensures, uses_le a.use_sets.now a.use_counts.now a.v)
 
 pub loop-i-init : goal.loop-i-init
-loop-i-init c = c.up_to_lem.ensures ∙ without-none _
+loop-i-init c = c.up_to-conflict_set.ensures ∙ without-none _
 
 pub loop-i-preserved : goal.loop-i-preserved
 loop-i-preserved c =

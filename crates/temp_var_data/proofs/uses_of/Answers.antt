@@ -6,9 +6,9 @@ use Rattle.temp_var_data.proofs.uses_of.Goals as goal
 pub returns-then-counts-row : goal.returns-then-counts-row
 returns-then-counts-row c =
     let a = c.args in
-    sym (uses-none a.use-sets.now a.use-counts.now a.v c.if-counts-row.true)
+    sym (uses-none a.use_sets.now a.use_counts.now a.v c.if-counts-row.true)
 
 pub returns : goal.returns
 returns c =
     let a = c.args in
-    uses_part a.use-sets.now a.use-counts.now a.v c.counted.result-1 c.counted.ensures
+    uses_part a.use_sets.now a.use_counts.now a.v c.counted.result c.counted.ensures

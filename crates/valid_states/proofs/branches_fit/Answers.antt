@@ -16,13 +16,13 @@ pub loop-level-preserved : goal.loop-level-preserved
 loop-level-preserved c =
     let a = c.args in
     let l = c.loop-level in
-    (below_next _ l.level (c.occurrences_fit_lem.ensures ∙ ap (occurrences_fit (of_records a.counters a.records.now)) c.load-branch.ensures) c.if-occurrences_fit.true l.invariant.0, search rules)
+    (below_next _ l.level (c.occurrences_fit.ensures ∙ ap (occurrences_fit (of_records a.counters a.records.now)) c.load-branch.ensures) c.if-occurrences_fit.true l.invariant.0, search rules)
 
 pub returns-else-occurrences_fit : goal.returns-else-occurrences_fit
 returns-else-occurrences_fit c =
     let a = c.args in
     let l = c.loop-level in
-    below_fails _ _ l.level c.loop-level-test.true (c.occurrences_fit_lem.ensures ∙ ap (occurrences_fit (of_records a.counters a.records.now)) c.load-branch.ensures) c.if-occurrences_fit.false
+    below_fails _ _ l.level c.loop-level-test.true (c.occurrences_fit.ensures ∙ ap (occurrences_fit (of_records a.counters a.records.now)) c.load-branch.ensures) c.if-occurrences_fit.false
 
 pub returns : goal.returns
 returns c =

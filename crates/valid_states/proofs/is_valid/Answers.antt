@@ -6,66 +6,50 @@ use Rattle.valid_states.proofs.is_valid.Goals as goal
 pub returns-then-not-counters_fit : goal.returns-then-not-counters_fit
 unfolding is_valid
 returns-then-not-counters_fit c =
-    stopped _ (missed c.counters_fit_lem.ensures c.if-not-counters_fit.true)
+    stopped _ (missed c.counters_fit.ensures c.if-not-counters_fit.true)
 
 pub variables_fit-requires : goal.variables_fit-requires
-variables_fit-requires c = records_fit c.args.counters (held c.counters_fit_lem.ensures c.if-not-counters_fit.false)
+variables_fit-requires c = records_fit c.args.counters (held c.counters_fit.ensures c.if-not-counters_fit.false)
 
 pub returns-then-not-variables_fit : goal.returns-then-not-variables_fit
 unfolding is_valid
 returns-then-not-variables_fit c =
-    let c1 = c in
-    passed (held c1.counters_fit_lem.ensures c1.if-not-counters_fit.false)
+    passed (held c.counters_fit.ensures c.if-not-counters_fit.false)
     (stopped _ (missed c.variables_fit.ensures c.if-not-variables_fit.true))
 
 pub returns-then-not-mappings_fit : goal.returns-then-not-mappings_fit
 unfolding is_valid
 returns-then-not-mappings_fit c =
-    let c2 = c in
-    let c1 = c2 in
-    passed (held c1.counters_fit_lem.ensures c1.if-not-counters_fit.false)
-    (passed (held c2.variables_fit.ensures c2.if-not-variables_fit.false)
+    passed (held c.counters_fit.ensures c.if-not-counters_fit.false)
+    (passed (held c.variables_fit.ensures c.if-not-variables_fit.false)
     (stopped _ (missed c.mappings_fit.ensures c.if-not-mappings_fit.true)))
 
 pub freed_registers_fit-requires : goal.freed_registers_fit-requires
 freed_registers_fit-requires c =
-    let c1 = c in
-    freed_registers_fit_lem c1.args.counters (held c1.counters_fit_lem.ensures c1.if-not-counters_fit.false)
+    freed_registers_fit_lem c.args.counters (held c.counters_fit.ensures c.if-not-counters_fit.false)
 
 pub returns-then-not-freed_registers_fit : goal.returns-then-not-freed_registers_fit
 unfolding is_valid
 returns-then-not-freed_registers_fit c =
-    let c3 = c in
-    let c2 = c3 in
-    let c1 = c2 in
-    passed (held c1.counters_fit_lem.ensures c1.if-not-counters_fit.false)
-    (passed (held c2.variables_fit.ensures c2.if-not-variables_fit.false)
-    (passed (held c3.mappings_fit.ensures c3.if-not-mappings_fit.false)
-    (stopped _ (missed c.freed_registers_fit_lem.ensures c.if-not-freed_registers_fit.true))))
+    passed (held c.counters_fit.ensures c.if-not-counters_fit.false)
+    (passed (held c.variables_fit.ensures c.if-not-variables_fit.false)
+    (passed (held c.mappings_fit.ensures c.if-not-mappings_fit.false)
+    (stopped _ (missed c.freed_registers_fit.ensures c.if-not-freed_registers_fit.true))))
 
 pub returns-then-not-freed_slots_fit : goal.returns-then-not-freed_slots_fit
 unfolding is_valid
 returns-then-not-freed_slots_fit c =
-    let c4 = c in
-    let c3 = c4 in
-    let c2 = c3 in
-    let c1 = c2 in
-    passed (held c1.counters_fit_lem.ensures c1.if-not-counters_fit.false)
-    (passed (held c2.variables_fit.ensures c2.if-not-variables_fit.false)
-    (passed (held c3.mappings_fit.ensures c3.if-not-mappings_fit.false)
-    (passed (held c4.freed_registers_fit_lem.ensures c4.if-not-freed_registers_fit.false)
+    passed (held c.counters_fit.ensures c.if-not-counters_fit.false)
+    (passed (held c.variables_fit.ensures c.if-not-variables_fit.false)
+    (passed (held c.mappings_fit.ensures c.if-not-mappings_fit.false)
+    (passed (held c.freed_registers_fit.ensures c.if-not-freed_registers_fit.false)
     (stopped _ (missed c.freed_slots_fit.ensures c.if-not-freed_slots_fit.true)))))
 
 pub returns : goal.returns
 unfolding is_valid
 returns c =
-    let c5 = c in
-    let c4 = c5 in
-    let c3 = c4 in
-    let c2 = c3 in
-    let c1 = c2 in
-    passed (held c1.counters_fit_lem.ensures c1.if-not-counters_fit.false)
-    (passed (held c2.variables_fit.ensures c2.if-not-variables_fit.false)
-    (passed (held c3.mappings_fit.ensures c3.if-not-mappings_fit.false)
-    (passed (held c4.freed_registers_fit_lem.ensures c4.if-not-freed_registers_fit.false)
-    (passed (held c5.freed_slots_fit.ensures c5.if-not-freed_slots_fit.false) c.branches_fit.ensures))))
+    passed (held c.counters_fit.ensures c.if-not-counters_fit.false)
+    (passed (held c.variables_fit.ensures c.if-not-variables_fit.false)
+    (passed (held c.mappings_fit.ensures c.if-not-mappings_fit.false)
+    (passed (held c.freed_registers_fit.ensures c.if-not-freed_registers_fit.false)
+    (passed (held c.freed_slots_fit.ensures c.if-not-freed_slots_fit.false) c.branches_fit.ensures))))

@@ -14,12 +14,12 @@ loop-r-init c = (below_none _, search rules)
 pub loop-r-preserved : goal.loop-r-preserved
 loop-r-preserved c =
     let l = c.loop-r in
-    (below_next _ l.r c.mapping_fits_lem.ensures c.if-mapping_fits.true l.invariant.0, search rules)
+    (below_next _ l.r c.mapping_fits.ensures c.if-mapping_fits.true l.invariant.0, search rules)
 
 pub returns-else-mapping_fits : goal.returns-else-mapping_fits
 returns-else-mapping_fits c =
     let l = c.loop-r in
-    below_fails _ _ l.r (omega (arith, c.loop-r-test.true)) c.mapping_fits_lem.ensures c.if-mapping_fits.false
+    below_fails _ _ l.r (omega (arith, c.loop-r-test.true)) c.mapping_fits.ensures c.if-mapping_fits.false
 
 pub returns : goal.returns
 returns c =

@@ -4,8 +4,7 @@ use Rattle.valid_states.proofs.occurrences_fit.Goals as goal
 
 pub returns : goal.returns
 returns c =
-    let deep = c in
     joined c.both.ensures c.is_count-2.ensures
     (joined c.both-index.ensures c.is_count.ensures
     (joined c.both-shallow.ensures c.are_variables-2.ensures
-    (joined deep.both-deep.ensures deep.are_variables.ensures deep.are_permanent-hits.ensures)))
+    (joined c.both-deep.ensures c.are_variables.ensures c.are_permanent-hits.ensures)))

@@ -10,7 +10,7 @@ use Rattle.valid_states.specs.ValidStates.{all_below}
 use Rattle.valid_states.proofs.uses_fit.Given as goal
 
 abbrev pub invariant-loop-i : goal.invariant-loop-i
-invariant-loop-i l = (all_below l.i (λ j. is_use (get_or l.use_sets (l.v * uses + j) 0)) ≡ true) × (l.i ≤ l.count-1)
+invariant-loop-i l = (all_below l.i (λ j. is_use (get_or l.use_sets (l.v * uses + j) 0)) ≡ true) × (l.i ≤ l.count)
 
 abbrev pub decreases-loop-i : goal.decreases-loop-i
-decreases-loop-i l = l.count-1 - l.i
+decreases-loop-i l = l.count - l.i

@@ -13,12 +13,12 @@ loop-v-init c = (below_none _, search rules)
 pub loop-v-preserved : goal.loop-v-preserved
 loop-v-preserved c =
     let l = c.loop-v in
-    (below_next _ l.v c.variable_fits_lem.ensures c.if-variable_fits.true l.invariant.0, search rules)
+    (below_next _ l.v c.variable_fits.ensures c.if-variable_fits.true l.invariant.0, search rules)
 
 pub returns-else-variable_fits : goal.returns-else-variable_fits
 returns-else-variable_fits c =
     let l = c.loop-v in
-    below_fails _ _ l.v c.loop-v-test.true c.variable_fits_lem.ensures c.if-variable_fits.false
+    below_fails _ _ l.v c.loop-v-test.true c.variable_fits.ensures c.if-variable_fits.false
 
 pub returns : goal.returns
 returns c =

@@ -2,4 +2,4 @@
 use Rattle.variable_records.proofs.perm_row.Goals as goal
 
 pub returns : goal.returns
-returns c = simp (← c.safety_row_lem.ensures, c.safety_row-2.ensures)
+returns c = simp (← c.safety_row.ensures, c.safety_row-2.ensures)

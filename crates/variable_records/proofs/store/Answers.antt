@@ -8,4 +8,4 @@ pub returns : goal.returns
 unfolding record_put
 returns c =
     let a = c.args in
-    c.put_row_lem.ensures ∙ ap (λ (row : Row). row_put a.records.now a.v row) c.row_of.ensures
+    c.put_row.ensures ∙ ap (λ (row : Row). row_put a.records.now a.v row) c.row_of.ensures

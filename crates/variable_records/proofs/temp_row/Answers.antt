@@ -2,4 +2,4 @@
 use Rattle.variable_records.proofs.temp_row.Goals as goal
 
 pub returns : goal.returns
-returns c = simp (← c.context_code_lem.ensures, ← c.chunk_num.ensures, ← c.safety_row_lem.ensures, c.safety_row-2.ensures)
+returns c = simp (← c.context_code.ensures, ← c.chunk_num.ensures, ← c.safety_row.ensures, c.safety_row-2.ensures)
