@@ -46,6 +46,7 @@ module _ (test : ℕ → Bool) where
 
   entry_some : (ns : List ℕ) (n : ℕ) → n ∈ ns → test n ≡ true → any test ns ≡ true
   unfolding any
+  entry_some [] n x'' e = elim x'' [ ]
   entry_some (m ∷ ms) n (Memᴰ.head same) e = simp (ap test (sym same) ∙ e)
   entry_some (m ∷ ms) n (Memᴰ.tail later) e = simp (entry_some ms n later e, or-true)
 

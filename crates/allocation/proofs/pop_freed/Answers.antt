@@ -10,14 +10,14 @@ pub returns-then-not-is_in_use : goal.returns-then-not-is_in_use
 returns-then-not-is_in_use c =
     let a = c.args in
     let l = c.loop-left in
-    let unused = sym c.is_in_use.ensures ∙ not-true _ c.if-not-is_in_use.true in
+    let unused = sym c.is_in_use.ensures ∙ c.if-not-is_in_use.true in
     sym (l.invariant ∙ popped-taken a.counters a.list.now l.left c.loop-left-test.true unused)
 
 pub loop-left-preserved : goal.loop-left-preserved
 loop-left-preserved c =
     let a = c.args in
     let l = c.loop-left in
-    let used = sym c.is_in_use.ensures ∙ not-false _ c.if-not-is_in_use.false in
+    let used = sym c.is_in_use.ensures ∙ c.if-not-is_in_use.false in
     l.invariant ∙ popped_passed a.counters a.list.now l.left c.loop-left-test.true used
 
 pub returns : goal.returns

@@ -9,13 +9,13 @@ use Rattle.event_calls.proofs.call.Goals as goal
 pub returns-then-not-is_valid_state : goal.returns-then-not-is_valid_state
 returns-then-not-is_valid_state c =
     call_invalid _ _ _
-    (sym c.is_valid_state.ensures ∙ not-true _ c.if-not-is_valid_state.true)
+    (sym c.is_valid_state.ensures ∙ c.if-not-is_valid_state.true)
     c.refused.ensures
 
 pub returns-then-line-gt-SHEET_BYTES : goal.returns-then-line-gt-SHEET_BYTES
 returns-then-line-gt-SHEET_BYTES c =
     call_long _ _ _
-    (sym c.is_valid_state.ensures ∙ not-false _ c.if-not-is_valid_state.false)
+    (sym c.is_valid_state.ensures ∙ c.if-not-is_valid_state.false)
     c.if-line-gt-SHEET_BYTES.true
     c.refused-then-line-gt-SHEET_BYTES.ensures
 
@@ -25,7 +25,7 @@ step_bytes-answer-requires c = c.if-line-gt-SHEET_BYTES.false
 pub returns-then-answer-gt0 : goal.returns-then-answer-gt0
 returns-then-answer-gt0 c =
     call-refused _ _ _
-    (sym c.is_valid_state.ensures ∙ not-false _ c.if-not-is_valid_state.false)
+    (sym c.is_valid_state.ensures ∙ c.if-not-is_valid_state.false)
     c.if-line-gt-SHEET_BYTES.false
     c.step_bytes-answer.ensures
     c.if-answer-gt0.true
@@ -34,7 +34,7 @@ returns-then-answer-gt0 c =
 pub returns-then-out-length : goal.returns-then-out-length
 returns-then-out-length c =
     call_longer _ _ _
-    (sym c.is_valid_state.ensures ∙ not-false _ c.if-not-is_valid_state.false)
+    (sym c.is_valid_state.ensures ∙ c.if-not-is_valid_state.false)
     c.if-line-gt-SHEET_BYTES.false
     c.step_bytes-answer.ensures
     c.if-answer-gt0.false
@@ -46,7 +46,7 @@ returns-then-out-length c =
 pub returns : goal.returns
 returns c =
     call-written _ _ _
-    (sym c.is_valid_state.ensures ∙ not-false _ c.if-not-is_valid_state.false)
+    (sym c.is_valid_state.ensures ∙ c.if-not-is_valid_state.false)
     c.if-line-gt-SHEET_BYTES.false
     c.step_bytes-answer.ensures
     c.if-answer-gt0.false

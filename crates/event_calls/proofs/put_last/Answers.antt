@@ -6,12 +6,12 @@ use Rattle.event_calls.specs.CallLaws.{last_invalid, last_longer, last_written}
 use Rattle.event_calls.proofs.put_last.Goals as goal
 
 pub returns-then-not-is_valid_state : goal.returns-then-not-is_valid_state
-returns-then-not-is_valid_state c = last_invalid _ _ (sym c.is_valid_state.ensures ∙ not-true _ c.if-not-is_valid_state.true)
+returns-then-not-is_valid_state c = last_invalid _ _ (sym c.is_valid_state.ensures ∙ c.if-not-is_valid_state.true)
 
 pub returns-then-out-count : goal.returns-then-out-count
 returns-then-out-count c =
     last_longer _ _
-    (sym c.is_valid_state.ensures ∙ not-false _ c.if-not-is_valid_state.false)
+    (sym c.is_valid_state.ensures ∙ c.if-not-is_valid_state.false)
     c.max_reg_allocated-registers.ensures
     c.num_perm_vars-slots.ensures
     (search rules)
@@ -21,7 +21,7 @@ returns-then-out-count c =
 pub returns : goal.returns
 returns c =
     last_written _ _
-    (sym c.is_valid_state.ensures ∙ not-false _ c.if-not-is_valid_state.false)
+    (sym c.is_valid_state.ensures ∙ c.if-not-is_valid_state.false)
     c.max_reg_allocated-registers.ensures
     c.num_perm_vars-slots.ensures
     (search rules)

@@ -2,16 +2,16 @@
 -- Assumes nothing.
 use Prim.Native.Nat.{◌-◌}
 use mathlib.Core.Path.{sym, ap, ap₂, ◌∙◌}
-use mathlib.Core.Logic.{⊎_elim}
 use native.Mathlib.Numerals.{add-one}
 use native.Mathlib.Omega.{arith}
 use borrow.Author.Tests.{not-true, not-false}
 use Rattle.restricting_sets.specs.StepLaws.{last_uses, with_last, below_none, below_permanent, below-temporary}
 use Rattle.restricting_sets.specs.StepLaws.{below_all, no_use-kept}
+use Rattle.restricting_sets.proofs.no_use_of.Goals.{then-is_temporary, else-is_temporary}
 use Rattle.restricting_sets.proofs.no_use_of.Goals as goal
 
 pub returns-then-not-is_temporary : goal.returns-then-not-is_temporary
-returns-then-not-is_temporary c = sym (no_use-kept _ _ _ _ _ (sym c.is_temporary.ensures ∙ not-true _ c.if-not-is_temporary.true))
+returns-then-not-is_temporary c = sym (no_use-kept _ _ _ _ _ (sym c.is_temporary.ensures ∙ c.if-not-is_temporary.true))
 
 pub loop-u-init : goal.loop-u-init
 loop-u-init c = (omega arith, below_none _ _ _ _ _ (omega arith))
@@ -23,17 +23,14 @@ loop-u-preserved c =
     let temporary = sym c.is_temporary-in-loop-u.ensures in (
       omega arith,
       rw (add-one l.u)
-          (⊎_elim
-          (λ w. w.4
-          ∙ w.3.ensures
-          ∙ ap₂ (λ last own. with_last l.set last own l.u v) (w.2.ensures ∙ ap (last_uses _) w.1.ensures) c.used_registers-own.ensures
-          ∙ below-temporary _ _ _ v _ l.u l.set l.invariant.1 (temporary ∙ w.0.taken))
-          (λ w. w.1 ∙ below_permanent _ _ _ v _ l.u l.set l.invariant.1 (temporary ∙ w.0.left))
-          c.if-is_temporary.branch),
+          (elim c.if-is_temporary.branch [
+            | then-is_temporary w ↦ w.set-is ∙ w.with_uses-set.ensures ∙ ap₂ (λ last own. with_last l.set last own l.u v) (w.last_uses-last.ensures ∙ ap (last_uses _) w.chunk_of.ensures) c.used_registers-own.ensures ∙ below-temporary _ _ _ v _ l.u l.set l.invariant.1 (temporary ∙ w.if-is_temporary.true)
+            | else-is_temporary w ↦ w.set-is ∙ below_permanent _ _ _ v _ l.u l.set l.invariant.1 (temporary ∙ w.if-is_temporary.false)
+          ]),
     )
 
 pub returns : goal.returns
 returns c =
     let l = c.loop-u in
-    let temporary = sym c.is_temporary.ensures ∙ not-false _ c.if-not-is_temporary.false in
+    let temporary = sym c.is_temporary.ensures ∙ c.if-not-is_temporary.false in
     l.invariant.1 ∙ below_all _ _ _ _ _ l.u (omega arith) temporary

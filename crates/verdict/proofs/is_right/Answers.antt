@@ -8,43 +8,43 @@ returns-then-not-all_same c =
     wants_unforced
     _ _ _ _ _ c.counted-demanded.ensures c.counted-wanted.ensures c.label.ensures
     c.All_same.ensures
-    (not-true _ c.if-not-all_same.true)
+    (c.if-not-all_same.true)
 
 pub returns-then-not-all_same-2 : goal.returns-then-not-all_same-2
 returns-then-not-all_same-2 c =
     claims_unforced
     _ _ _ _ _ c.counted-demanded.ensures c.counted-wanted.ensures c.label.ensures
     c.All_same.ensures
-    (not-false _ c.if-not-all_same.false)
+    (c.if-not-all_same.false)
     c.counted.ensures
     c.all_same-2.ensures
-    (not-true _ c.if-not-all_same-2.true)
+    (c.if-not-all_same-2.true)
 
 pub returns-then-not-same_subterms : goal.returns-then-not-same_subterms
 returns-then-not-same_subterms c =
     subterms_unforced
     _ _ _ _ _ c.counted-demanded.ensures c.counted-wanted.ensures c.label.ensures
     c.All_same.ensures
-    (not-false _ c.if-not-all_same.false)
+    (c.if-not-all_same.false)
     c.counted.ensures
     c.all_same-2.ensures
-    (not-false _ c.if-not-all_same-2.false)
+    (c.if-not-all_same-2.false)
     c.counted-2.ensures
     c.counted-3.ensures
     c.same_subterms.ensures
-    (not-true _ c.if-not-same_subterms.true)
+    (c.if-not-same_subterms.true)
 
 pub returns : goal.returns
 returns c =
     all_forced
     _ _ _ _ _ c.counted-demanded.ensures c.counted-wanted.ensures c.label.ensures
     c.All_same.ensures
-    (not-false _ c.if-not-all_same.false)
+    (c.if-not-all_same.false)
     c.counted.ensures
     c.all_same-2.ensures
-    (not-false _ c.if-not-all_same-2.false)
+    (c.if-not-all_same-2.false)
     c.counted-2.ensures
     c.counted-3.ensures
     c.same_subterms.ensures
-    (not-false _ c.if-not-same_subterms.false)
+    (c.if-not-same_subterms.false)
     c.is_demanded_wanted.ensures
