@@ -2,7 +2,7 @@
 use Rattle.allocator_state.proofs.used_by.Goals as goal
 
 pub returns-in-Temp : goal.returns-in-Temp
-returns-in-Temp c = simp (c.place-1.given.1, c.insert.ensures)
+returns-in-Temp c = simp (c.in-Temp.is, c.insert.ensures)
 
 pub returns-in-Perm : goal.returns-in-Perm
-returns-in-Perm c = simp (c.place-in-Perm-1.given.1, c.insert-in-Perm.ensures)
+returns-in-Perm c = simp (c.in-Perm.is, c.insert-in-Perm.ensures)

@@ -2,10 +2,10 @@
 use Rattle.branch_events.proofs.arm_released.Goals as goal
 
 pub returns-in-NextArm : goal.returns-in-NextArm
-returns-in-NextArm c = simp c.enum_told-1.given.1
+returns-in-NextArm c = simp c.in-NextArm.is
 
 pub returns-in-NoneToAdvance : goal.returns-in-NoneToAdvance
-returns-in-NoneToAdvance c = simp c.enum_told-in-NoneToAdvance-1.given.1
+returns-in-NoneToAdvance c = simp c.in-NoneToAdvance.is
 
 pub returns-in-ArmsFull : goal.returns-in-ArmsFull
-returns-in-ArmsFull c = simp c.enum_told-in-ArmsFull-1.given.1
+returns-in-ArmsFull c = simp c.in-ArmsFull.is

@@ -2,13 +2,13 @@
 use Rattle.branch_events.proofs.close_released.Goals as goal
 
 pub returns-in-Left : goal.returns-in-Left
-returns-in-Left c = simp (c.popped-1.given.1, c.with_open.ensures)
+returns-in-Left c = simp (c.in-Left.is, c.with_open.ensures)
 
 pub returns-in-TooDeep : goal.returns-in-TooDeep
-returns-in-TooDeep c = simp c.enum_told-1.given.1
+returns-in-TooDeep c = simp c.in-TooDeep.is
 
 pub returns-in-ClosesTemporary : goal.returns-in-ClosesTemporary
-returns-in-ClosesTemporary c = simp c.enum_told-in-ClosesTemporary-1.given.1
+returns-in-ClosesTemporary c = simp c.in-ClosesTemporary.is
 
 pub returns-in-PastOuterArms : goal.returns-in-PastOuterArms
-returns-in-PastOuterArms c = simp c.enum_told-in-PastOuterArms-1.given.1
+returns-in-PastOuterArms c = simp c.in-PastOuterArms.is

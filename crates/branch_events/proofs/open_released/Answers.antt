@@ -2,7 +2,7 @@
 use Rattle.branch_events.proofs.open_released.Goals as goal
 
 pub returns-in-Open : goal.returns-in-Open
-returns-in-Open c = simp (c.opened-1.given.1, c.with_open.ensures)
+returns-in-Open c = simp (c.in-Open.is, c.with_open.ensures)
 
 pub returns-in-Full : goal.returns-in-Full
-returns-in-Full c = simp c.enum_told-1.given.1
+returns-in-Full c = simp c.in-Full.is

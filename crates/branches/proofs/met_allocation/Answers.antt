@@ -4,8 +4,8 @@ use Rattle.branches.proofs.met_allocation.Goals as goal
 
 pub returns-in-Temp : goal.returns-in-Temp
 unfolding allocation_met
-returns-in-Temp c = simp c.allocation-1.given.1
+returns-in-Temp c = simp c.in-Temp.is
 
 pub returns-in-Perm : goal.returns-in-Perm
 unfolding allocation_met
-returns-in-Perm c = simp (c.allocation-in-Perm-1.given.1, c.needed_if.ensures, c.needed_if-in-Perm.ensures, c.contains-shallow.ensures, c.contains-deep.ensures)
+returns-in-Perm c = simp (c.in-Perm.is, c.needed_if.ensures, c.needed_if-in-Perm.ensures, c.contains-shallow.ensures, c.contains-deep.ensures)

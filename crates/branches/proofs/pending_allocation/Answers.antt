@@ -4,8 +4,8 @@ use Rattle.branches.proofs.pending_allocation.Goals as goal
 
 pub returns-in-Temp : goal.returns-in-Temp
 unfolding allocation_pending
-returns-in-Temp c = simp c.allocation-1.given.1
+returns-in-Temp c = simp c.in-Temp.is
 
 pub returns-in-Perm : goal.returns-in-Perm
 unfolding allocation_pending
-returns-in-Perm c = simp c.allocation-in-Perm-1.given.1
+returns-in-Perm c = simp c.in-Perm.is

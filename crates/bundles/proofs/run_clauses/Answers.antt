@@ -2,7 +2,6 @@
 -- the length of what is left. Assumes nothing.
 use mathlib.Core.Path.{refl, sym, ◌∙◌}
 use native.Mathlib.Omega.{arith}
-use borrow.Author.Tests.{not-true, not-false}
 use Rattle.bundles.specs.RunningLaws.{going-first, going-refused, lines_short, count_short, next_shorter, going_on_lem, going-last}
 use Rattle.bundles.proofs.run_clauses.Goals as goal
 

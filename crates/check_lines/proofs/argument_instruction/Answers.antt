@@ -5,23 +5,23 @@ use Rattle.check_lines.proofs.argument_instruction.Goals as goal
 
 pub returns-in-6 : goal.returns-in-6
 unfolding argument_instruction
-returns-in-6 c = simp c.in_default.keys1
+returns-in-6 c = simp c.in-6.is
 
 pub returns-in-7 : goal.returns-in-7
 unfolding argument_instruction
-returns-in-7 c = simp c.in_default.keys2
+returns-in-7 c = simp c.in-7.is
 
 pub returns-in-8 : goal.returns-in-8
 unfolding argument_instruction
-returns-in-8 c = simp c.in_default.keys3
+returns-in-8 c = simp c.in-8.is
 
 pub returns-in-9 : goal.returns-in-9
 unfolding argument_instruction
-returns-in-9 c = simp c.in_default.keys4
+returns-in-9 c = simp c.in-9.is
 
 pub returns-in-10 : goal.returns-in-10
 unfolding argument_instruction
-returns-in-10 c = simp (c.in_default.keys5, c.unsafe_line.ensures)
+returns-in-10 c = simp (c.in-10.is, c.unsafe_line.ensures)
 
 pub returns-in_default : goal.returns-in_default
 unfolding argument_instruction

@@ -5,11 +5,11 @@ use Rattle.check_lines.proofs.argument_step.Goals as goal
 
 pub returns-in-4 : goal.returns-in-4
 unfolding argument_step
-returns-in-4 c = simp c.in_default.keys1
+returns-in-4 c = simp c.in-4.is
 
 pub returns-in-5 : goal.returns-in-5
 unfolding argument_step
-returns-in-5 c = simp c.in_default.keys2
+returns-in-5 c = simp c.in-5.is
 
 pub returns-in_default : goal.returns-in_default
 unfolding argument_step

@@ -2,4 +2,4 @@
 use Rattle.check_lines.proofs.by_itself.Goals as goal
 
 pub returns-in-Of : goal.returns-in-Of
-returns-in-Of c = simp c.number-1.given.1
+returns-in-Of c = simp c.in-Of.is

@@ -5,11 +5,11 @@ use Rattle.check_lines.proofs.deep_step.Goals as goal
 
 pub returns-in-2 : goal.returns-in-2
 unfolding deep_step
-returns-in-2 c = simp c.in_default.keys1
+returns-in-2 c = simp c.in-2.is
 
 pub returns-in-3 : goal.returns-in-3
 unfolding deep_step
-returns-in-3 c = simp c.in_default.keys2
+returns-in-3 c = simp c.in-3.is
 
 pub returns-in_default : goal.returns-in_default
 unfolding deep_step

@@ -5,7 +5,7 @@ use Rattle.check_lines.proofs.no_field.Goals as goal
 
 pub returns-in-1 : goal.returns-in-1
 unfolding no_field
-returns-in-1 c = simp c.in_default.keys1
+returns-in-1 c = simp c.in-1.is
 
 pub returns-in_default : goal.returns-in_default
 unfolding no_field

@@ -2,10 +2,10 @@
 use Rattle.check_lines.proofs.one_field.Goals as goal
 
 pub returns-in-Number : goal.returns-in-Number
-returns-in-Number c = simp (c.field-1.given.1, c.deep_step.ensures)
+returns-in-Number c = simp (c.in-Number.is, c.deep_step.ensures)
 
 pub returns-in-Place : goal.returns-in-Place
-returns-in-Place c = simp (c.field-in-Place-1.given.1, c.place_instruction.ensures)
+returns-in-Place c = simp (c.in-Place.is, c.place_instruction.ensures)
 
 pub returns-in-Malformed : goal.returns-in-Malformed
-returns-in-Malformed c = simp c.enum_told-1.given.1
+returns-in-Malformed c = simp c.in-Malformed.is

@@ -6,21 +6,21 @@ use Rattle.check_lines.proofs.two_fields.Goals as goal
 pub returns-in-Number : goal.returns-in-Number
 returns-in-Number c =
     simp (
-      c.second-1.given.1,
-      c.first-1.given.1,
+      c.in-Of.is,
+      c.in-Number.is,
       c.argument_step.ensures,
     )
 
 pub returns-in-Place : goal.returns-in-Place
 returns-in-Place c =
     simp (
-      c.second-1.given.1,
-      c.first-in-Of-1.given.1,
+      c.in-Of.is,
+      c.in-Place.is,
       c.argument_instruction.ensures,
     )
 
 pub returns-in-Malformed-first : goal.returns-in-Malformed-first
-returns-in-Malformed-first c = simp (c.second-1.given.1, c.enum_told-1.given.1)
+returns-in-Malformed-first c = simp (c.in-Of.is, c.in-Malformed-first.is)
 
 pub returns-in-Malformed : goal.returns-in-Malformed
-returns-in-Malformed c = simp c.enum_told-in-Malformed-1.given.1 (sym (by-none c.args.first))
+returns-in-Malformed c = simp c.in-Malformed.is (sym (by-none c.args.first))

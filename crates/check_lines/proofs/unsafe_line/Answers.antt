@@ -2,4 +2,4 @@
 use Rattle.check_lines.proofs.unsafe_line.Goals as goal
 
 pub returns-in-Perm : goal.returns-in-Perm
-returns-in-Perm c = simp c.place-1.given.1
+returns-in-Perm c = simp c.in-Perm.is

@@ -10,7 +10,7 @@ returns-then-sheet-gt-SHEET_BYTES c = by-verdict _ (sheet_full _ _ _ c.if-sheet-
 pub returns-in-Refused : goal.returns-in-Refused
 returns-in-Refused c =
     by-verdict _
-    (sheet-refused _ _ c.if-sheet-gt-SHEET_BYTES.false c.run_lines-run.ensures c.run-1.given.1)
+    (sheet-refused _ _ c.if-sheet-gt-SHEET_BYTES.false c.run_lines-run.ensures c.in-Refused.is)
 
 pub returns-in-Decided : goal.returns-in-Decided
 returns-in-Decided c =
@@ -18,6 +18,6 @@ returns-in-Decided c =
     (sheet-judged _ _
     c.if-sheet-gt-SHEET_BYTES.false
     c.run_lines-run.ensures
-    c.run-in-Decided-1.given.1
+    c.in-Decided.is
     c.write_verdict.ensures.0
     c.write_verdict.ensures.1)

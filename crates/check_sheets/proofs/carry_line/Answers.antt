@@ -8,12 +8,12 @@ pub returns-in-Malformed : goal.returns-in-Malformed
 returns-in-Malformed c =
     line-malformed _ _ _
     c.read_line-said.ensures
-    c.enum_told-1.given.1
+    c.in-Malformed.is
     (ap (taking_of _ _ _ _ _ _ _ _) c.malformed.ensures)
 
 pub returns-in-Says : goal.returns-in-Says
 returns-in-Says c =
     line_said _ _ _
     c.read_line-said.ensures
-    c.said-1.given.1
+    c.in-Says.is
     c.take_line.ensures

@@ -9,8 +9,8 @@ returns-then-counters-v c = simp (le-leb _ _ c.if-counters-v.true)
 
 pub returns-in-Temp : goal.returns-in-Temp
 unfolding chunk_at
-returns-in-Temp c = simp (lt-leb _ _ c.if-counters-v.false, ← c.load-variable.ensures, c.allocation-1.given.1, c.chunk_num.ensures)
+returns-in-Temp c = simp (lt-leb _ _ c.if-counters-v.false, ← c.load-variable.ensures, c.in-Temp.is, c.chunk_num.ensures)
 
 pub returns-in-Perm : goal.returns-in-Perm
 unfolding chunk_at
-returns-in-Perm c = simp (lt-leb _ _ c.if-counters-v.false, ← c.load-variable.ensures, c.enum_told-1.given.1)
+returns-in-Perm c = simp (lt-leb _ _ c.if-counters-v.false, ← c.load-variable.ensures, c.in-Perm.is)

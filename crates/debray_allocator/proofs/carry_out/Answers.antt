@@ -7,7 +7,7 @@ use Rattle.debray_allocator.proofs.carry_out.Goals as goal
 pub returns-in-Temp : goal.returns-in-Temp
 returns-in-Temp c =
     carried with_temp_recording _ _ _ _ _ _ _ _ _ _ _ _
-    c.event-1.given.1
+    c.in-Temp.is
     c.released.ensures
     c.add_temp.ensures
     refl
@@ -16,7 +16,7 @@ returns-in-Temp c =
 pub returns-in-Perm : goal.returns-in-Perm
 returns-in-Perm c =
     carried with_recording _ _ _ _ _ _ _ _ _ _ _ _
-    c.event-in-Perm-1.given.1
+    c.in-Perm.is
     c.released-in-Perm.ensures
     c.add_perm.ensures
     refl
@@ -25,7 +25,7 @@ returns-in-Perm c =
 pub returns-in-Sets : goal.returns-in-Sets
 returns-in-Sets c =
     carried with_restricting _ _ _ _ _ _ _ _ _ _ _ _
-    c.enum_told-1.given.1
+    c.in-Sets.is
     c.plain.ensures
     c.populate.ensures
     refl
@@ -34,7 +34,7 @@ returns-in-Sets c =
 pub returns-in-Head : goal.returns-in-Head
 returns-in-Head c =
     carried with_heading _ _ _ _ _ _ _ _ _ _ _ _
-    c.enum_told-in-Head-1.given.1
+    c.in-Head.is
     c.plain-in-Head.ensures
     c.reset_at_head.ensures
     refl
@@ -43,7 +43,7 @@ returns-in-Head c =
 pub returns-in-Args : goal.returns-in-Args
 returns-in-Args c =
     carried only_counters _ _ _ _ _ _ _ _ _ _ _ _
-    c.event-in-Args-1.given.1
+    c.in-Args.is
     c.plain-in-Args.ensures
     c.reset-arg-1.ensures
     refl
@@ -52,7 +52,7 @@ returns-in-Args c =
 pub returns-in-Var : goal.returns-in-Var
 returns-in-Var c =
     carried with_var_mark _ _ _ _ _ _ _ _ _ _ _ _
-    c.event-in-Var-1.given.1
+    c.in-Var.is
     c.marked.ensures
     c.mark_var.ensures
     refl
@@ -61,7 +61,7 @@ returns-in-Var c =
 pub returns-in-Anon : goal.returns-in-Anon
 returns-in-Anon c =
     carried with_mark _ _ _ _ _ _ _ _ _ _ _ _
-    c.event-in-Anon-1.given.1
+    c.in-Anon.is
     c.marked-in-Anon.ensures
     c.mark_anon_var.ensures
     refl
@@ -70,7 +70,7 @@ returns-in-Anon c =
 pub returns-in-NonVar : goal.returns-in-NonVar
 returns-in-NonVar c =
     carried with_mark _ _ _ _ _ _ _ _ _ _ _ _
-    c.event-in-NonVar-1.given.1
+    c.in-NonVar.is
     c.marked-in-NonVar.ensures
     c.mark_non_var.ensures
     refl
@@ -79,7 +79,7 @@ returns-in-NonVar c =
 pub returns-in-Cut : goal.returns-in-Cut
 returns-in-Cut c =
     carried with_cut _ _ _ _ _ _ _ _ _ _ _ _
-    c.event-in-Cut-1.given.1
+    c.in-Cut.is
     c.marked-in-Cut.ensures
     c.mark_cut_var.ensures
     refl
@@ -88,7 +88,7 @@ returns-in-Cut c =
 pub returns-in-Incr : goal.returns-in-Incr
 returns-in-Incr c =
     carried with_counting _ _ _ _ _ _ _ _ _ _ _ _
-    c.event-in-Incr-1.given.1
+    c.in-Incr.is
     c.refused.ensures
     c.increment_running_count.ensures
     refl
@@ -97,7 +97,7 @@ returns-in-Incr c =
 pub returns-in-Free : goal.returns-in-Free
 returns-in-Free c =
     carried with_release_of _ _ _ _ _ _ _ _ _ _ _ _
-    c.event-in-Free-1.given.1
+    c.in-Free.is
     c.released-in-Free.ensures
     c.free_var.ensures
     refl
@@ -106,7 +106,7 @@ returns-in-Free c =
 pub returns-in-Safe : goal.returns-in-Safe
 returns-in-Safe c =
     carried with_counting _ _ _ _ _ _ _ _ _ _ _ _
-    c.event-in-Safe-1.given.1
+    c.in-Safe.is
     c.refused-in-Safe.ensures
     c.mark_safe_var_unconditionally-refusal.ensures
     refl
@@ -115,7 +115,7 @@ returns-in-Safe c =
 pub returns-in-Give : goal.returns-in-Give
 returns-in-Give c =
     carried with_freed_register _ _ _ _ _ _ _ _ _ _ _ _
-    c.event-in-Give-1.given.1
+    c.in-Give.is
     c.released-in-Give.ensures
     c.add_reg_to_free_list.ensures
     refl
@@ -124,7 +124,7 @@ returns-in-Give c =
 pub returns-in-Tail : goal.returns-in-Tail
 returns-in-Tail c =
     carried only_counters _ _ _ _ _ _ _ _ _ _ _ _
-    c.event-in-Tail-1.given.1
+    c.in-Tail.is
     c.plain-in-Tail.ensures
     c.set_tail_position.ensures
     refl
@@ -133,7 +133,7 @@ returns-in-Tail c =
 pub returns-in-Next : goal.returns-in-Next
 returns-in-Next c =
     carried only_counters _ _ _ _ _ _ _ _ _ _ _ _
-    c.enum_told-in-Next-1.given.1
+    c.in-Next.is
     c.plain-in-Next.ensures
     c.advance_arg.ensures
     refl
@@ -142,7 +142,7 @@ returns-in-Next c =
 pub returns-in-Open : goal.returns-in-Open
 returns-in-Open c =
     carried with_stack _ _ _ _ _ _ _ _ _ _ _ _
-    c.event-in-Open-1.given.1
+    c.in-Open.is
     c.released-in-Open.ensures
     c.«open».ensures
     refl
@@ -151,7 +151,7 @@ returns-in-Open c =
 pub returns-in-Arm : goal.returns-in-Arm
 returns-in-Arm c =
     carried with_stack _ _ _ _ _ _ _ _ _ _ _ _
-    c.event-in-Arm-1.given.1
+    c.in-Arm.is
     c.released-in-Arm.ensures
     c.arm.ensures
     refl
@@ -160,7 +160,7 @@ returns-in-Arm c =
 pub returns-in-Take : goal.returns-in-Take
 returns-in-Take c =
     carried with_branch_step _ _ _ _ _ _ _ _ _ _ _ _
-    c.enum_told-in-Take-1.given.1
+    c.in-Take.is
     c.released-in-Take.ensures
     c.take.ensures
     refl
@@ -169,7 +169,7 @@ returns-in-Take c =
 pub returns-in-Close : goal.returns-in-Close
 returns-in-Close c =
     carried with_branch_step _ _ _ _ _ _ _ _ _ _ _ _
-    c.event-in-Close-1.given.1
+    c.in-Close.is
     c.released-in-Close.ensures
     c.close.ensures
     refl
@@ -178,7 +178,7 @@ returns-in-Close c =
 pub returns-in-Reset : goal.returns-in-Reset
 returns-in-Reset c =
     carried with_clearing _ _ _ _ _ _ _ _ _ _ _ _
-    c.enum_told-in-Reset-1.given.1
+    c.in-Reset.is
     c.plain-in-Reset.ensures
     c.reset.ensures
     refl
@@ -187,7 +187,7 @@ returns-in-Reset c =
 pub returns-in-Contents : goal.returns-in-Contents
 returns-in-Contents c =
     carried with_clearing _ _ _ _ _ _ _ _ _ _ _ _
-    c.enum_told-in-Contents-1.given.1
+    c.in-Contents.is
     c.plain-in-Contents.ensures
     c.reset_contents.ensures
     refl
@@ -196,7 +196,7 @@ returns-in-Contents c =
 pub returns-in-ClearFree : goal.returns-in-ClearFree
 returns-in-ClearFree c =
     carried only_counters _ _ _ _ _ _ _ _ _ _ _ _
-    c.enum_told-in-ClearFree-1.given.1
+    c.in-ClearFree.is
     c.plain-in-ClearFree.ensures
     c.reset_free_list.ensures
     refl

@@ -17,8 +17,8 @@ returns-then-contains_use c = simp (← c.get-v.ensures, lt-ltb _ _ c.if-v.false
 
 pub returns-in-Register : goal.returns-in-Register
 unfolding hint
-returns-in-Register c = simp (← c.get-v.ensures, lt-ltb _ _ c.if-v.false, lt-leb _ _ c.if-v.false, ← c.is_temporary.ensures, c.if-not-is_temporary.false, ← c.last_use.ensures, ← c.contains_use.ensures, c.if-contains_use.false, ← c.alloc_with_ca-to.ensures, c.to-1.given.1)
+returns-in-Register c = simp (← c.get-v.ensures, lt-ltb _ _ c.if-v.false, lt-leb _ _ c.if-v.false, ← c.is_temporary.ensures, c.if-not-is_temporary.false, ← c.last_use.ensures, ← c.contains_use.ensures, c.if-contains_use.false, ← c.alloc_with_ca-to.ensures, c.in-Register.is)
 
 pub returns-in-NoRegister : goal.returns-in-NoRegister
 unfolding hint
-returns-in-NoRegister c = simp (← c.get-v.ensures, lt-ltb _ _ c.if-v.false, lt-leb _ _ c.if-v.false, ← c.is_temporary.ensures, c.if-not-is_temporary.false, ← c.last_use.ensures, ← c.contains_use.ensures, c.if-contains_use.false, ← c.alloc_with_ca-to.ensures, c.enum_told-1.given.1)
+returns-in-NoRegister c = simp (← c.get-v.ensures, lt-ltb _ _ c.if-v.false, lt-leb _ _ c.if-v.false, ← c.is_temporary.ensures, c.if-not-is_temporary.false, ← c.last_use.ensures, ← c.contains_use.ensures, c.if-contains_use.false, ← c.alloc_with_ca-to.ensures, c.in-NoRegister.is)

@@ -5,16 +5,16 @@ use Rattle.evacuation.proofs.evacuate_arg.Goals as goal
 
 pub returns-then-r-counters : goal.returns-then-r-counters
 unfolding evacuated evacuated_by
-returns-then-r-counters c = simp (← c.alloc_in_last_goal_hint-to.ensures, c.to-1.given.1, eq-eqb _ _ c.if-r-counters.true, c.going-then-r-counters.ensures)
+returns-then-r-counters c = simp (← c.alloc_in_last_goal_hint-to.ensures, c.in-Moves.is, eq-eqb _ _ c.if-r-counters.true, c.going-then-r-counters.ensures)
 
 pub returns-in-Stays : goal.returns-in-Stays
 unfolding evacuated evacuated_by
-returns-in-Stays c = simp (← c.alloc_in_last_goal_hint-to.ensures, c.enum_told-1.given.1, c.going.ensures)
+returns-in-Stays c = simp (← c.alloc_in_last_goal_hint-to.ensures, c.in-Stays.is, c.going.ensures)
 
 pub returns-in-NoRegister : goal.returns-in-NoRegister
 unfolding evacuated evacuated_by
-returns-in-NoRegister c = simp (← c.alloc_in_last_goal_hint-to.ensures, c.enum_told-in-NoRegister-1.given.1)
+returns-in-NoRegister c = simp (← c.alloc_in_last_goal_hint-to.ensures, c.in-NoRegister.is)
 
 pub returns-else-r-counters : goal.returns-else-r-counters
 unfolding evacuated evacuated_by
-returns-else-r-counters c = simp (← c.alloc_in_last_goal_hint-to.ensures, c.to-1.given.1, ne_eqb _ _ c.if-r-counters.false, c.move_to.ensures)
+returns-else-r-counters c = simp (← c.alloc_in_last_goal_hint-to.ensures, c.in-Moves.is, ne_eqb _ _ c.if-r-counters.false, c.move_to.ensures)

@@ -2,7 +2,6 @@
 -- Assumes nothing.
 use borrow.Author.Rules.{rules}
 use mathlib.Core.Path.{refl, sym, ◌∙◌}
-use borrow.Author.Tests.{not-true, not-false}
 use Rattle.event_calls.specs.CallLaws.{call_invalid, call_long, call-refused, call_longer, call-written}
 use Rattle.event_calls.proofs.call.Goals as goal
 

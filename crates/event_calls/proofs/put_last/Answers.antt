@@ -1,7 +1,6 @@
 -- `event_calls::put_last`: the state first, the room last; each way of the code is a case of the definition. Assumes nothing.
 use borrow.Author.Rules.{rules}
 use mathlib.Core.Path.{sym, ◌∙◌}
-use borrow.Author.Tests.{not-true, not-false}
 use Rattle.event_calls.specs.CallLaws.{last_invalid, last_longer, last_written}
 use Rattle.event_calls.proofs.put_last.Goals as goal
 

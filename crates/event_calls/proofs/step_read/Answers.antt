@@ -11,14 +11,14 @@ use Rattle.event_calls.proofs.step_read.Goals as goal
 
 pub slice_bounds-step-end : goal.slice_bounds-step-end
 slice_bounds-step-end c =
-    let short = count_within _ c.read_line-said.ensures.0 _ c.said-1.given.1 c.requires c.read_line-said.ensures.1 in
+    let short = count_within _ c.read_line-said.ensures.0 _ c.in-Says.is c.requires c.read_line-said.ensures.1 in
     search (rules, short)
 
 pub shape_of-list-in-Malformed : goal.shape_of-list-in-Malformed
 shape_of-list-in-Malformed c = ap length c.read_line-said.ensures.1 ∙ printed-length _ _ _
 
 pub returns-in-Malformed : goal.returns-in-Malformed
-returns-in-Malformed c = line-malformed _ c.read_line-said.ensures.0 _ c.enum_told-1.given.1 c.malformed.ensures
+returns-in-Malformed c = line-malformed _ c.read_line-said.ensures.0 _ c.in-Malformed.is c.malformed.ensures
 
 pub shape_of-list-in-Says : goal.shape_of-list-in-Says
 shape_of-list-in-Says c = ap length c.read_line-said.ensures.1 ∙ printed-length _ _ _

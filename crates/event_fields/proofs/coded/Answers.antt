@@ -2,4 +2,4 @@
 use Rattle.event_fields.proofs.coded.Goals as goal
 
 pub returns-in-Of-register : goal.returns-in-Of-register
-returns-in-Of-register c = simp (c.context-1.given.1, c.register-1.given.1, c.use_in.ensures)
+returns-in-Of-register c = simp (c.in-Of.is, c.in-Of-register.is, c.use_in.ensures)

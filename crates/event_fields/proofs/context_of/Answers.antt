@@ -8,7 +8,7 @@ use Rattle.event_fields.proofs.context_of.Goals as goal
 
 pub returns-in-104 : goal.returns-in-104
 unfolding context_of
-returns-in-104 c = simp (same_letter (byte "h") refl, ← c.only_byte.ensures, c.in_default.keys1)
+returns-in-104 c = simp (same_letter (byte "h") refl, ← c.only_byte.ensures, c.in-104.is)
 
 pub returns-in-109 : goal.returns-in-109
 unfolding context_of
@@ -22,7 +22,7 @@ returns-in-109 c =
       ← c.only_byte-letter.ensures,
       ← c.part_after.ensures,
       ← c.read-chunk.ensures,
-      c.in_default-letter.keys1,
+      c.in-109.is,
       c.in_mid.ensures,
     )
 
@@ -39,7 +39,7 @@ returns-in-108 c =
       ← c.only_byte-letter.ensures,
       ← c.part_after.ensures,
       ← c.read-chunk.ensures,
-      c.in_default-letter.keys2,
+      c.in-108.is,
       c.in_last.ensures,
     )
 

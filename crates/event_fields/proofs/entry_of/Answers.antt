@@ -2,10 +2,10 @@
 use Rattle.event_fields.proofs.entry_of.Goals as goal
 
 pub returns-in-Uses : goal.returns-in-Uses
-returns-in-Uses c = simp (c.enum_told-1.given.1, c.use_of.ensures)
+returns-in-Uses c = simp (c.in-Uses.is, c.use_of.ensures)
 
 pub returns-in-Arguments : goal.returns-in-Arguments
-returns-in-Arguments c = simp (c.enum_told-in-Arguments-1.given.1, c.argument_of.ensures)
+returns-in-Arguments c = simp (c.in-Arguments.is, c.argument_of.ensures)
 
 pub returns-in-Variables : goal.returns-in-Variables
-returns-in-Variables c = simp (c.enum_told-in-Variables-1.given.1, c.read.ensures)
+returns-in-Variables c = simp (c.in-Variables.is, c.read.ensures)

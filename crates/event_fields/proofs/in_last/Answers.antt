@@ -2,4 +2,4 @@
 use Rattle.event_fields.proofs.in_last.Goals as goal
 
 pub returns-in-Of : goal.returns-in-Of
-returns-in-Of c = simp c.chunk-1.given.1
+returns-in-Of c = simp c.in-Of.is

@@ -8,15 +8,15 @@ use Rattle.event_fields.proofs.level_of.Goals as goal
 
 pub returns-in-114 : goal.returns-in-114
 unfolding level_of
-returns-in-114 c = simp (same_letter (byte "r") refl, ← c.only_byte.ensures, c.in_default.keys1)
+returns-in-114 c = simp (same_letter (byte "r") refl, ← c.only_byte.ensures, c.in-114.is)
 
 pub returns-in-115 : goal.returns-in-115
 unfolding level_of
-returns-in-115 c = simp (same_letter (byte "r") refl, same_letter (byte "s") refl, ← c.only_byte.ensures, c.in_default.keys2)
+returns-in-115 c = simp (same_letter (byte "r") refl, same_letter (byte "s") refl, ← c.only_byte.ensures, c.in-115.is)
 
 pub returns-in-100 : goal.returns-in-100
 unfolding level_of
-returns-in-100 c = simp (same_letter (byte "r") refl, same_letter (byte "s") refl, same_letter (byte "d") refl, ← c.only_byte.ensures, c.in_default.keys3)
+returns-in-100 c = simp (same_letter (byte "r") refl, same_letter (byte "s") refl, same_letter (byte "d") refl, ← c.only_byte.ensures, c.in-100.is)
 
 pub returns-in_default : goal.returns-in_default
 unfolding level_of

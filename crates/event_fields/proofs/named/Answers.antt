@@ -5,8 +5,8 @@ use Rattle.event_fields.proofs.named.Goals as goal
 
 pub returns-then-n : goal.returns-then-n
 unfolding variable_entry
-returns-then-n c = simp (c.variable-1.given.1, lt-ltb _ _ c.if-n.true)
+returns-then-n c = simp (c.in-Of.is, lt-ltb _ _ c.if-n.true)
 
 pub returns-else-n : goal.returns-else-n
 unfolding variable_entry
-returns-else-n c = simp (c.variable-1.given.1, le-ltb _ _ c.if-n.false)
+returns-else-n c = simp (c.in-Of.is, le-ltb _ _ c.if-n.false)

@@ -8,11 +8,11 @@ use Rattle.event_fields.proofs.target_of.Goals as goal
 
 pub returns-in-102 : goal.returns-in-102
 unfolding target_of
-returns-in-102 c = simp (same_letter (byte "f") refl, ← c.only_byte.ensures, c.in_default.keys1)
+returns-in-102 c = simp (same_letter (byte "f") refl, ← c.only_byte.ensures, c.in-102.is)
 
 pub returns-in-113 : goal.returns-in-113
 unfolding target_of
-returns-in-113 c = simp (same_letter (byte "f") refl, same_letter (byte "q") refl, ← c.only_byte.ensures, c.in_default.keys2)
+returns-in-113 c = simp (same_letter (byte "f") refl, same_letter (byte "q") refl, ← c.only_byte.ensures, c.in-113.is)
 
 pub returns-in_default : goal.returns-in_default
 unfolding target_of

@@ -2,4 +2,4 @@
 use Rattle.event_lines.proofs.closed.Goals as goal
 
 pub returns-in-Of-variables : goal.returns-in-Of-variables
-returns-in-Of-variables c = simp (c.depth-1.given.1, c.variables-1.given.1)
+returns-in-Of-variables c = simp (c.in-Of.is, c.in-Of-variables.is)

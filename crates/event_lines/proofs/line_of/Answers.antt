@@ -11,7 +11,7 @@ pub returns-in-16 : goal.returns-in-16
 returns-in-16 c =
     let a = c.args in
     let fields = fields_left tab a.rest.now in (
-      c.with_three.ensures ∙ ap with_three c.three_numbers.ensures ∙ sym (said_three a.code fields c.in_default-1.keys1),
+      c.with_three.ensures ∙ ap with_three c.three_numbers.ensures ∙ sym (said_three a.code fields c.in-16.is),
       put_no_entries a.code fields a.list.now (λ l. omega arith),
     )
 

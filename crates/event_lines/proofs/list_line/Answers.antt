@@ -10,18 +10,18 @@ use Rattle.event_lines.proofs.list_line.Goals as goal
 pub returns-in-20 : goal.returns-in-20
 unfolding list_line entries_by
 returns-in-20 c =
-    (simp (c.in_default.keys1, c.temp_line.ensures.0), simp (c.in_default.keys1, c.temp_line.ensures.1))
+    (simp (c.in-20.is, c.temp_line.ensures.0), simp (c.in-20.is, c.temp_line.ensures.1))
 
 pub returns-in-21 : goal.returns-in-21
 unfolding list_line entries_by
 returns-in-21 c =
-    let k = c.in_default.keys2 in
+    let k = c.in-21.is in
     (simp (k, c.headed.ensures, c.read_list-arguments.ensures.0), simp (k, c.read_list-arguments.ensures.1))
 
 pub returns-in-22 : goal.returns-in-22
 unfolding list_line entries_by
 returns-in-22 c =
-    let k = c.in_default.keys3 in
+    let k = c.in-22.is in
     (simp (k, c.close_line.ensures.0), simp (k, c.close_line.ensures.1))
 
 pub returns-in_default : goal.returns-in_default

@@ -5,15 +5,15 @@ use Rattle.event_lines.proofs.mark_of.Goals as goal
 
 pub returns-in-17 : goal.returns-in-17
 unfolding mark_of
-returns-in-17 c = simp (c.in_default.keys1, ← c.one_number.ensures, c.var_line.ensures)
+returns-in-17 c = simp (c.in-17.is, ← c.one_number.ensures, c.var_line.ensures)
 
 pub returns-in-18 : goal.returns-in-18
 unfolding mark_of
-returns-in-18 c = simp (c.in_default.keys2, c.anon_line.ensures)
+returns-in-18 c = simp (c.in-18.is, c.anon_line.ensures)
 
 pub returns-in-19 : goal.returns-in-19
 unfolding mark_of
-returns-in-19 c = simp (c.in_default.keys3, ← c.one_number-in-19.ensures, c.nonvar_line.ensures)
+returns-in-19 c = simp (c.in-19.is, ← c.one_number-in-19.ensures, c.nonvar_line.ensures)
 
 pub returns-in_default : goal.returns-in_default
 unfolding mark_of

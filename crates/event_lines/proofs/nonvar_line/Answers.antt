@@ -2,4 +2,4 @@
 use Rattle.event_lines.proofs.nonvar_line.Goals as goal
 
 pub returns-in-Of : goal.returns-in-Of
-returns-in-Of c = simp c.cell-1.given.1
+returns-in-Of c = simp c.in-Of.is

@@ -2,4 +2,4 @@
 use Rattle.event_lines.proofs.paired.Goals as goal
 
 pub returns-in-Of-second : goal.returns-in-Of-second
-returns-in-Of-second c = simp (c.first-1.given.1, c.second-1.given.1)
+returns-in-Of-second c = simp (c.in-Of.is, c.in-Of-second.is)

@@ -24,7 +24,7 @@ returns-in_default c =
     let left = l.left.now in
     let some = c.loop-left-test.true in
     let part = c.field-part.ensures ∙ ap (λ (k : ℕ). take (k - 1) (drop 1 left)) c.end_of_field-end.ensures in
-    let none = sym (ap (entry_of a.entries) part) ∙ sym c.entry_of-entry.ensures ∙ c.enum_told-1.given.1 in (
+    let none = sym (ap (entry_of a.entries) part) ∙ sym c.entry_of-entry.ensures ∙ c.in_default.is in (
       sym (counted-not _ _ (l.invariant.1 ∙ all_not a.entries a.mark left some none)),
       sym (put-none l.list l.count)
           ∙ ap (printed l.list l.count) (sym (leading-not a.entries a.mark left some none))
@@ -47,8 +47,8 @@ loop-left-preserved c =
     let ends = c.end_of_field-end.ensures in
     let part = c.field-part.ensures ∙ ap (λ (k : ℕ). take (k - 1) (drop 1 left)) ends in
     let behind = c.rest_after-behind.ensures ∙ ap (λ (k : ℕ). drop k left) ends in
-    let n = c.entry-1.given.0.0 in
-    let one = sym (ap (entry_of a.entries) part) ∙ sym c.entry_of-entry.ensures ∙ c.entry-1.given.1 in
+    let n = c.in-Of.n in
+    let one = sym (ap (entry_of a.entries) part) ∙ sym c.entry_of-entry.ensures ∙ c.in-Of.is in
     rw behind (
       omega (arith, left_shorter a.mark left some),
       l.invariant.1 ∙ all_more a.entries a.mark left some n one,

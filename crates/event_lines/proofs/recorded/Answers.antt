@@ -2,4 +2,4 @@
 use Rattle.event_lines.proofs.recorded.Goals as goal
 
 pub returns-in-Of-uses : goal.returns-in-Of-uses
-returns-in-Of-uses c = simp (c.occurrences-1.given.1, c.context-1.given.1, c.uses-1.given.1)
+returns-in-Of-uses c = simp (c.in-Of.is, c.in-Of-context.is, c.in-Of-uses.is)

@@ -2,4 +2,4 @@
 use Rattle.event_lines.proofs.tripled.Goals as goal
 
 pub returns-in-Of-others : goal.returns-in-Of-others
-returns-in-Of-others c = simp (c.first-1.given.1, c.others-1.given.1)
+returns-in-Of-others c = simp (c.in-Of.is, c.in-Of-others.is)

@@ -2,4 +2,4 @@
 use Rattle.event_lines.proofs.with_one.Goals as goal
 
 pub returns-in-Of : goal.returns-in-Of
-returns-in-Of c = simp (c.number-1.given.1, c.one_said.ensures)
+returns-in-Of c = simp (c.in-Of.is, c.one_said.ensures)

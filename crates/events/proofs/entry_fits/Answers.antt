@@ -3,13 +3,13 @@ use borrow.Author.Tests.{eq-eqb, ne_eqb}
 use Rattle.events.proofs.entry_fits.Goals as goal
 
 pub returns-in-Uses : goal.returns-in-Uses
-returns-in-Uses c = simp (c.enum_told-1.given.1, c.is_use.ensures)
+returns-in-Uses c = simp (c.in-Uses.is, c.is_use.ensures)
 
 pub returns-then-n-eq-NO_VARIABLE : goal.returns-then-n-eq-NO_VARIABLE
-returns-then-n-eq-NO_VARIABLE c = simp (c.enum_told-in-Arguments-1.given.1, eq-eqb _ _ c.if-n-eq-NO_VARIABLE.true)
+returns-then-n-eq-NO_VARIABLE c = simp (c.in-Arguments.is, eq-eqb _ _ c.if-n-eq-NO_VARIABLE.true)
 
 pub returns-else-n-eq-NO_VARIABLE : goal.returns-else-n-eq-NO_VARIABLE
-returns-else-n-eq-NO_VARIABLE c = simp (c.enum_told-in-Arguments-1.given.1, ne_eqb _ _ c.if-n-eq-NO_VARIABLE.false)
+returns-else-n-eq-NO_VARIABLE c = simp (c.in-Arguments.is, ne_eqb _ _ c.if-n-eq-NO_VARIABLE.false)
 
 pub returns-in-Variables : goal.returns-in-Variables
-returns-in-Variables c = simp c.enum_told-in-Variables-1.given.1
+returns-in-Variables c = simp c.in-Variables.is

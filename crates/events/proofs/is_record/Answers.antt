@@ -40,10 +40,10 @@ not-record Contents h = refl
 not-record ClearFree h = refl
 
 pub returns-in-Temp : goal.returns-in-Temp
-returns-in-Temp c = simp c.enum_told-1.given.1
+returns-in-Temp c = simp c.in-Temp.is
 
 pub returns-in-Perm : goal.returns-in-Perm
-returns-in-Perm c = simp c.enum_told-in-Perm-1.given.1
+returns-in-Perm c = simp c.in-Perm.is
 
 pub returns-in_default : goal.returns-in_default
 returns-in_default c = not-record c.args.event c.in_default.keys3

@@ -4,8 +4,8 @@ use Rattle.events.proofs.refusal_before.Goals as goal
 
 pub returns-in-true : goal.returns-in-true
 unfolding refusal_before
-returns-in-true c = simp (← c.is_record.ensures, ← c.both.ensures, c.if-both.true)
+returns-in-true c = simp (← c.is_record.ensures, ← c.both.ensures, c.in-true.is)
 
 pub returns-in-false : goal.returns-in-false
 unfolding refusal_before
-returns-in-false c = simp (← c.is_record.ensures, ← c.both.ensures, c.if-both.false, c.refusal_by_size.ensures)
+returns-in-false c = simp (← c.is_record.ensures, ← c.both.ensures, c.in-false.is, c.refusal_by_size.ensures)

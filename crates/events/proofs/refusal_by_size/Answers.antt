@@ -4,12 +4,12 @@ use Rattle.events.proofs.refusal_by_size.Goals as goal
 
 pub returns-in-true-is_full : goal.returns-in-true-is_full
 unfolding refusal_by_size
-returns-in-true-is_full c = simp (← c.is_in_size.ensures, c.if-is_in_size.true, ← c.is_full.ensures, c.if-is_full.true)
+returns-in-true-is_full c = simp (← c.is_in_size.ensures, c.in-true.is, ← c.is_full.ensures, c.in-true-is_full.is)
 
 pub returns-in-false-is_full : goal.returns-in-false-is_full
 unfolding refusal_by_size
-returns-in-false-is_full c = simp (← c.is_in_size.ensures, c.if-is_in_size.true, ← c.is_full.ensures, c.if-is_full.false)
+returns-in-false-is_full c = simp (← c.is_in_size.ensures, c.in-true.is, ← c.is_full.ensures, c.in-false-is_full.is)
 
 pub returns-in-false : goal.returns-in-false
 unfolding refusal_by_size
-returns-in-false c = simp (← c.is_in_size.ensures, c.if-is_in_size.false)
+returns-in-false c = simp (← c.is_in_size.ensures, c.in-false.is)

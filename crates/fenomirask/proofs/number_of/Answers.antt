@@ -7,15 +7,15 @@ use Rattle.fenomirask.proofs.Words.{read_back}
 use Rattle.fenomirask.proofs.number_of.Goals as goal
 
 pub signed-requires : goal.signed-requires
-signed-requires c = subst Fits c.answered-1.given.1 c.requires
+signed-requires c = subst Fits c.in-Written.is c.requires
 
 pub signed_refusal-requires : goal.signed_refusal-requires
-signed_refusal-requires c = subst Fits c.answered-in-Refused-1.given.1 c.requires
+signed_refusal-requires c = subst Fits c.in-Refused.is c.requires
 
 pub returns-in-Written : goal.returns-in-Written
-returns-in-Written c = read_back c.signed.type_inv (c.signed.ensures ∙ sym (ap number_of c.answered-1.given.1))
+returns-in-Written c = read_back c.signed.type_inv (c.signed.ensures ∙ sym (ap number_of c.in-Written.is))
 
 pub returns-in-Refused : goal.returns-in-Refused
 returns-in-Refused c =
     read_back c.signed_refusal.type_inv
-    (c.signed_refusal.ensures ∙ sym (ap number_of c.answered-in-Refused-1.given.1))
+    (c.signed_refusal.ensures ∙ sym (ap number_of c.in-Refused.is))

@@ -5,10 +5,10 @@ use Rattle.freeing.proofs.free_var.Goals as goal
 
 pub returns-in-Temp : goal.returns-in-Temp
 unfolding freed
-returns-in-Temp c = simp (← c.load-variable.ensures, c.enum_told-1.given.1)
+returns-in-Temp c = simp (← c.load-variable.ensures, c.in-Temp.is)
 
 pub returns-in-Perm : goal.returns-in-Perm
 unfolding freed
 returns-in-Perm c =
     ap (with_records _) c.add_perm_to_free_list.ensures
-    ∙ simp (← c.load-variable.ensures, c.allocation-1.given.1, ← c.allocated.ensures, ← c.store.ensures)
+    ∙ simp (← c.load-variable.ensures, c.in-Perm.is, ← c.allocated.ensures, ← c.store.ensures)

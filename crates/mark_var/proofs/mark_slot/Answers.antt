@@ -2,7 +2,7 @@
 use Rattle.mark_var.proofs.mark_slot.Goals as goal
 
 pub returns-in-Pending : goal.returns-in-Pending
-returns-in-Pending c = simp (c.enum_told-1.given.1, ← c.give_slot.ensures, c.mark_at.ensures)
+returns-in-Pending c = simp (c.in-Pending.is, ← c.give_slot.ensures, c.mark_at.ensures)
 
 pub returns-in-Done : goal.returns-in-Done
-returns-in-Done c = simp (c.enum_told-in-Done-1.given.1, c.mark_at-in-Done.ensures)
+returns-in-Done c = simp (c.in-Done.is, c.mark_at-in-Done.ensures)

@@ -4,12 +4,12 @@ use Rattle.mark_var.proofs.note_place.Goals as goal
 
 pub returns-then-is_new : goal.returns-then-is_new
 unfolding noted_slot
-returns-then-is_new c = simp (c.enum_told-1.given.1, c.if-is_new.true, c.record_occurrence.ensures.0, c.record_occurrence.ensures.1.0, c.record_occurrence.ensures.1.1)
+returns-then-is_new c = simp (c.in-Perm.is, c.if-is_new.true, c.record_occurrence.ensures.0, c.record_occurrence.ensures.1.0, c.record_occurrence.ensures.1.1)
 
 pub returns-in-Temp : goal.returns-in-Temp
 unfolding noted_slot
-returns-in-Temp c = simp (c.place-1.given.1, c.insert.ensures)
+returns-in-Temp c = simp (c.in-Temp.is, c.insert.ensures)
 
 pub returns-else-is_new : goal.returns-else-is_new
 unfolding noted_slot
-returns-else-is_new c = simp (c.enum_told-1.given.1, c.if-is_new.false)
+returns-else-is_new c = simp (c.in-Perm.is, c.if-is_new.false)

@@ -2,16 +2,16 @@
 use Rattle.marks.proofs.alloc_reg_to_var.Goals as goal
 
 pub returns-in-Root : goal.returns-in-Root
-returns-in-Root c = simp (c.enum_told-1.given.1, c.alloc_apart.ensures)
+returns-in-Root c = simp (c.in-Root.is, c.alloc_apart.ensures)
 
 pub returns-in-Deep : goal.returns-in-Deep
-returns-in-Deep c = simp (c.enum_told-in-Deep-1.given.1, c.alloc_apart-in-Deep.ensures)
+returns-in-Deep c = simp (c.in-Deep.is, c.alloc_apart-in-Deep.ensures)
 
 pub returns-in-Mid : goal.returns-in-Mid
-returns-in-Mid c = simp (c.enum_told-in-Shallow-1.given.1, c.enum_told-in-Mid-1.given.1, c.alloc_apart-in-Mid.ensures)
+returns-in-Mid c = simp (c.in-Shallow.is, c.in-Mid.is, c.alloc_apart-in-Mid.ensures)
 
 pub returns-in-Head : goal.returns-in-Head
-returns-in-Head c = simp (c.enum_told-in-Shallow-1.given.1, c.enum_told-in-Head-1.given.1, c.alloc_shallow.ensures)
+returns-in-Head c = simp (c.in-Shallow.is, c.in-Head.is, c.alloc_shallow.ensures)
 
 pub returns-in-Last : goal.returns-in-Last
-returns-in-Last c = simp (c.enum_told-in-Shallow-1.given.1, c.context-1.given.1, c.alloc_shallow-in-Last.ensures)
+returns-in-Last c = simp (c.in-Shallow.is, c.in-Last.is, c.alloc_shallow-in-Last.ensures)

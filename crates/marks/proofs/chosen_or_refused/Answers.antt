@@ -2,7 +2,7 @@
 use Rattle.marks.proofs.chosen_or_refused.Goals as goal
 
 pub returns-in-Register : goal.returns-in-Register
-returns-in-Register c = simp c.chosen-1.given.1
+returns-in-Register c = simp c.in-Register.is
 
 pub returns-in-NoRegister : goal.returns-in-NoRegister
-returns-in-NoRegister c = simp c.enum_told-1.given.1
+returns-in-NoRegister c = simp c.in-NoRegister.is

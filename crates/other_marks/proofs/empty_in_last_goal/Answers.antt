@@ -2,10 +2,10 @@
 use Rattle.other_marks.proofs.empty_in_last_goal.Goals as goal
 
 pub returns-in-Head : goal.returns-in-Head
-returns-in-Head c = simp (c.enum_told-1.given.1, c.going.ensures)
+returns-in-Head c = simp (c.in-Head.is, c.going.ensures)
 
 pub returns-in-Mid : goal.returns-in-Mid
-returns-in-Mid c = simp (c.enum_told-in-Mid-1.given.1, c.going-in-Mid.ensures)
+returns-in-Mid c = simp (c.in-Mid.is, c.going-in-Mid.ensures)
 
 pub returns-in-Last : goal.returns-in-Last
-returns-in-Last c = simp (c.context-1.given.1, c.evacuate_arg.ensures)
+returns-in-Last c = simp (c.in-Last.is, c.evacuate_arg.ensures)

@@ -4,12 +4,12 @@ use Rattle.other_marks.proofs.mark_non_var.Goals as goal
 
 pub returns-in-Root : goal.returns-in-Root
 unfolding non_var_marked
-returns-in-Root c = simp (c.enum_told-1.given.1, c.mark_cell.ensures)
+returns-in-Root c = simp (c.in-Root.is, c.mark_cell.ensures)
 
 pub returns-in-Deep : goal.returns-in-Deep
 unfolding non_var_marked
-returns-in-Deep c = simp (c.enum_told-in-Deep-1.given.1, c.mark_cell-in-Deep.ensures)
+returns-in-Deep c = simp (c.in-Deep.is, c.mark_cell-in-Deep.ensures)
 
 pub returns-in-Shallow : goal.returns-in-Shallow
 unfolding non_var_marked
-returns-in-Shallow c = simp (c.enum_told-in-Shallow-1.given.1, c.put_non_var_argument.ensures)
+returns-in-Shallow c = simp (c.in-Shallow.is, c.put_non_var_argument.ensures)

@@ -4,16 +4,16 @@ use Rattle.record_marks.proofs.argument_to_value.Goals as goal
 
 pub returns-then-argument_safe : goal.returns-then-argument_safe
 unfolding argument_value_of
-returns-then-argument_safe c = simp (c.allocation-1.given.1, c.perm-1.given.1, ← c.argument_safe.ensures, c.if-argument_safe.true, c.argument_to_value-then-argument_safe.ensures)
+returns-then-argument_safe c = simp (c.in-Perm.is, c.in-Done.is, ← c.argument_safe.ensures, c.if-argument_safe.true, c.argument_to_value-then-argument_safe.ensures)
 
 pub returns-in-Temp : goal.returns-in-Temp
 unfolding argument_value_of
-returns-in-Temp c = simp (c.enum_told-1.given.1, c.argument_to_value.ensures)
+returns-in-Temp c = simp (c.in-Temp.is, c.argument_to_value.ensures)
 
 pub returns-in-Pending : goal.returns-in-Pending
 unfolding argument_value_of
-returns-in-Pending c = simp (c.allocation-1.given.1, c.enum_told-in-Pending-1.given.1)
+returns-in-Pending c = simp (c.in-Perm.is, c.in-Pending.is)
 
 pub returns-else-argument_safe : goal.returns-else-argument_safe
 unfolding argument_value_of
-returns-else-argument_safe c = simp (c.allocation-1.given.1, c.perm-1.given.1, ← c.argument_safe.ensures, c.if-argument_safe.false, ← c.unneeded-guarded.ensures, ← c.allocated.ensures, c.unsafe_argument_to_value.ensures)
+returns-else-argument_safe c = simp (c.in-Perm.is, c.in-Done.is, ← c.argument_safe.ensures, c.if-argument_safe.false, ← c.unneeded-guarded.ensures, ← c.allocated.ensures, c.unsafe_argument_to_value.ensures)

@@ -2,7 +2,7 @@
 use Rattle.record_marks.proofs.mark_safe_var_unconditionally.Goals as goal
 
 pub returns-in-Temp : goal.returns-in-Temp
-returns-in-Temp c = simp (c.allocation-1.given.1, ← c.unneeded-safe.ensures, c.allocated.ensures)
+returns-in-Temp c = simp (c.in-Temp.is, ← c.unneeded-safe.ensures, c.allocated.ensures)
 
 pub returns-in-Done : goal.returns-in-Done
-returns-in-Done c = simp (c.allocation-in-Perm-1.given.1, c.enum_told-in-Done-1.given.1, c.safe_in.ensures)
+returns-in-Done c = simp (c.in-Perm.is, c.in-Done.is, c.safe_in.ensures)

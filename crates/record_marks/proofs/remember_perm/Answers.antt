@@ -2,4 +2,4 @@
 use Rattle.record_marks.proofs.remember_perm.Goals as goal
 
 pub returns-in-Temp : goal.returns-in-Temp
-returns-in-Temp c = simp (c.allocation-1.given.1, c.allocated.ensures)
+returns-in-Temp c = simp (c.in-Temp.is, c.allocated.ensures)

@@ -2,4 +2,4 @@
 use Rattle.record_marks.proofs.safe_argument.Goals as goal
 
 pub returns-in-Head : goal.returns-in-Head
-returns-in-Head c = simp (c.enum_told-1.given.1, c.allocated.ensures)
+returns-in-Head c = simp (c.in-Head.is, c.allocated.ensures)

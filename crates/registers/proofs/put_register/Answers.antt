@@ -4,8 +4,8 @@ use Rattle.registers.proofs.put_register.Goals as goal
 
 pub returns-in-Temp : goal.returns-in-Temp
 unfolding register_text
-returns-in-Temp c = rw c.place-1.given.1 c.put_lettered.ensures
+returns-in-Temp c = rw c.in-Temp.is c.put_lettered.ensures
 
 pub returns-in-Perm : goal.returns-in-Perm
 unfolding register_text
-returns-in-Perm c = rw c.place-in-Perm-1.given.1 c.put_lettered-in-Perm.ensures
+returns-in-Perm c = rw c.in-Perm.is c.put_lettered-in-Perm.ensures

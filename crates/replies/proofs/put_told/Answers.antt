@@ -5,11 +5,11 @@ use Rattle.replies.proofs.put_told.Goals as goal
 
 pub overflow_cast-line : goal.overflow_cast-line
 overflow_cast-line c =
-    search (rules, refused_printable c.answered-in-Refused-1.given.1 c.requires)
+    search (rules, refused_printable c.in-Refused.is c.requires)
 
 pub returns-in-Written : goal.returns-in-Written
-returns-in-Written c = written-told c.answered-1.given.1 _
+returns-in-Written c = written-told c.in-Written.is _
 
 pub returns-in-Refused : goal.returns-in-Refused
 returns-in-Refused c =
-    refused-told c.answered-in-Refused-1.given.1 c.put_refusal.ensures
+    refused-told c.in-Refused.is c.put_refusal.ensures

@@ -8,16 +8,16 @@ returns-then-not-is_new c = simp c.if-not-is_new.true
 
 pub returns-in-Mid : goal.returns-in-Mid
 unfolding met
-returns-in-Mid c = simp (c.if-not-is_new.false, c.enum_told-1.given.1)
+returns-in-Mid c = simp (c.if-not-is_new.false, c.in-Mid.is)
 
 pub returns-in-Last : goal.returns-in-Last
 unfolding met
-returns-in-Last c = simp (c.if-not-is_new.false, c.enum_told-in-Last-1.given.1)
+returns-in-Last c = simp (c.if-not-is_new.false, c.in-Last.is)
 
 pub returns-in-Temp : goal.returns-in-Temp
 unfolding met
-returns-in-Temp c = simp (c.if-not-is_new.false, c.enum_told-in-Head-1.given.1, c.place-1.given.1, c.occurs_shallowly_in_head.ensures)
+returns-in-Temp c = simp (c.if-not-is_new.false, c.in-Head.is, c.in-Temp.is, c.occurs_shallowly_in_head.ensures)
 
 pub returns-in-Perm : goal.returns-in-Perm
 unfolding met
-returns-in-Perm c = simp (c.if-not-is_new.false, c.enum_told-in-Head-1.given.1, c.place-in-Head-1.given.1, c.occurs_shallowly_in_head-in-Perm.ensures)
+returns-in-Perm c = simp (c.if-not-is_new.false, c.in-Head.is, c.in-Perm.is, c.occurs_shallowly_in_head-in-Perm.ensures)

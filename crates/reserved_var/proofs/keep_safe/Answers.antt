@@ -2,10 +2,10 @@
 use Rattle.reserved_var.proofs.keep_safe.Goals as goal
 
 pub returns-in-Safe : goal.returns-in-Safe
-returns-in-Safe c = simp (c.safe-1.given.1, c.store.ensures)
+returns-in-Safe c = simp (c.in-Safe.is, c.store.ensures)
 
 pub returns-in-FromTemporary : goal.returns-in-FromTemporary
-returns-in-FromTemporary c = simp c.enum_told-1.given.1
+returns-in-FromTemporary c = simp c.in-FromTemporary.is
 
 pub returns-in-Stopped : goal.returns-in-Stopped
-returns-in-Stopped c = simp c.enum_told-in-Stopped-1.given.1
+returns-in-Stopped c = simp c.in-Stopped.is

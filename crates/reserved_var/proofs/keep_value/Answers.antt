@@ -2,7 +2,7 @@
 use Rattle.reserved_var.proofs.keep_value.Goals as goal
 
 pub returns-in-Value : goal.returns-in-Value
-returns-in-Value c = simp (c.valued-1.given.1, ← c.store.ensures, c.instructed.ensures)
+returns-in-Value c = simp (c.in-Value.is, ← c.store.ensures, c.instructed.ensures)
 
 pub returns-in-Stopped : goal.returns-in-Stopped
-returns-in-Stopped c = simp c.enum_told-1.given.1
+returns-in-Stopped c = simp c.in-Stopped.is

@@ -9,8 +9,8 @@ returns-then-v c = simp (le-leb _ _ c.if-v.true)
 
 pub returns-in-Temp : goal.returns-in-Temp
 unfolding awaits_register
-returns-in-Temp c = simp (lt-leb _ _ c.if-v.false, ← c.load-variable.ensures, ← c.as_reg_type-place.ensures, c.place-1.given.1)
+returns-in-Temp c = simp (lt-leb _ _ c.if-v.false, ← c.load-variable.ensures, ← c.as_reg_type-place.ensures, c.in-Temp.is)
 
 pub returns-in-Perm : goal.returns-in-Perm
 unfolding awaits_register
-returns-in-Perm c = simp (lt-leb _ _ c.if-v.false, ← c.load-variable.ensures, ← c.as_reg_type-place.ensures, c.enum_told-1.given.1)
+returns-in-Perm c = simp (lt-leb _ _ c.if-v.false, ← c.load-variable.ensures, ← c.as_reg_type-place.ensures, c.in-Perm.is)

@@ -4,12 +4,12 @@ use Rattle.resets.proofs.mark_safe_var_unconditionally.Goals as goal
 
 pub returns-in-Safe : goal.returns-in-Safe
 unfolding safe_marked
-returns-in-Safe c = simp (← c.current_branch_designator-branch.ensures, ← c.load-variable.ensures, ← c.mark_safe_var_unconditionally-marked.ensures, c.marked-1.given.1, c.store.ensures)
+returns-in-Safe c = simp (← c.current_branch_designator-branch.ensures, ← c.load-variable.ensures, ← c.mark_safe_var_unconditionally-marked.ensures, c.in-Safe.is, c.store.ensures)
 
 pub returns-in-FromTemporary : goal.returns-in-FromTemporary
 unfolding safe_marked
-returns-in-FromTemporary c = simp (← c.current_branch_designator-branch.ensures, ← c.load-variable.ensures, ← c.mark_safe_var_unconditionally-marked.ensures, c.enum_told-1.given.1)
+returns-in-FromTemporary c = simp (← c.current_branch_designator-branch.ensures, ← c.load-variable.ensures, ← c.mark_safe_var_unconditionally-marked.ensures, c.in-FromTemporary.is)
 
 pub returns-in-Stopped : goal.returns-in-Stopped
 unfolding safe_marked
-returns-in-Stopped c = simp (← c.current_branch_designator-branch.ensures, ← c.load-variable.ensures, ← c.mark_safe_var_unconditionally-marked.ensures, c.enum_told-in-Stopped-1.given.1)
+returns-in-Stopped c = simp (← c.current_branch_designator-branch.ensures, ← c.load-variable.ensures, ← c.mark_safe_var_unconditionally-marked.ensures, c.in-Stopped.is)

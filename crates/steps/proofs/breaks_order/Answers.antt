@@ -2,7 +2,7 @@
 use Rattle.steps.proofs.breaks_order.Goals as goal
 
 pub returns-in-Begins : goal.returns-in-Begins
-returns-in-Begins c = simp (c.line-1.given.1, c.step_breaks.ensures)
+returns-in-Begins c = simp (c.in-Begins.is, c.step_breaks.ensures)
 
 pub returns-in-Does : goal.returns-in-Does
-returns-in-Does c = simp (c.line-in-Does-1.given.1, ← c.is_misplaced.ensures, ← c.takes_number.ensures, ← c.both.ensures, c.either.ensures)
+returns-in-Does c = simp (c.in-Does.is, ← c.is_misplaced.ensures, ← c.takes_number.ensures, ← c.both.ensures, c.either.ensures)

@@ -2,4 +2,4 @@
 use Rattle.steps.proofs.fits.Goals as goal
 
 pub returns-in-Does : goal.returns-in-Does
-returns-in-Does c = simp (c.line-in-Does-1.given.1, c.instruction_fits.ensures)
+returns-in-Does c = simp (c.in-Does.is, c.instruction_fits.ensures)

@@ -2,4 +2,4 @@
 use Rattle.steps.proofs.goal_after.Goals as goal
 
 pub returns-in-Goal : goal.returns-in-Goal
-returns-in-Goal c = simp (c.step-1.given.1, c.insert.ensures)
+returns-in-Goal c = simp (c.in-Goal.is, c.insert.ensures)

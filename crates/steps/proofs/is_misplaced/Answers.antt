@@ -5,11 +5,11 @@ use Rattle.steps.proofs.is_misplaced.Goals as goal
 
 pub returns-in-1 : goal.returns-in-1
 unfolding misplaced_under
-returns-in-1 c = simp (c.in_default.keys1, c.is_put_or_set.ensures)
+returns-in-1 c = simp (c.in-1.is, c.is_put_or_set.ensures)
 
 pub returns-in-2 : goal.returns-in-2
 unfolding misplaced_under
-returns-in-2 c = simp (c.in_default.keys2, c.is_get_value_or_unify.ensures)
+returns-in-2 c = simp (c.in-2.is, c.is_get_value_or_unify.ensures)
 
 pub returns-in_default : goal.returns-in_default
 unfolding misplaced_under

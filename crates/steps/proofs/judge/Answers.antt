@@ -8,14 +8,14 @@ use Rattle.steps.proofs.judge.Goals as goal
 pub following-requires : goal.following-requires
 following-requires c =
     let a = c.args in
-    line-has_room a.order a.line (judged_refusal a.order a.line ∙ sym c.refusal_by-refusal.ensures ∙ c.in_default.keys1)
+    line-has_room a.order a.line (judged_refusal a.order a.line ∙ sym c.refusal_by-refusal.ensures ∙ c.in-0.is)
 
 pub returns-in-0 : goal.returns-in-0
 unfolding judged judged_as
 returns-in-0 c =
     simp (
       ← c.refusal_by-refusal.ensures,
-      eq-eqb _ _ c.in_default.keys1,
+      eq-eqb _ _ c.in-0.is,
       ← c.following.ensures,
       c.with_refusal.ensures,
     )

@@ -2,7 +2,7 @@
 use Rattle.steps.proofs.overfills.Goals as goal
 
 pub returns-in-Begins : goal.returns-in-Begins
-returns-in-Begins c = simp c.enum_told-1.given.1
+returns-in-Begins c = simp c.in-Begins.is
 
 pub returns-in-Does : goal.returns-in-Does
-returns-in-Does c = simp c.enum_told-in-Does-1.given.1
+returns-in-Does c = simp c.in-Does.is

@@ -2,7 +2,7 @@
 use Rattle.steps.proofs.place_fits.Goals as goal
 
 pub returns-in-Temp : goal.returns-in-Temp
-returns-in-Temp c = simp (c.place-1.given.1, c.is_register.ensures)
+returns-in-Temp c = simp (c.in-Temp.is, c.is_register.ensures)
 
 pub returns-in-Perm : goal.returns-in-Perm
-returns-in-Perm c = simp (c.place-in-Perm-1.given.1, c.is_register-in-Perm.ensures)
+returns-in-Perm c = simp (c.in-Perm.is, c.is_register-in-Perm.ensures)

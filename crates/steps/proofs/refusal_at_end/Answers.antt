@@ -5,7 +5,7 @@ use Rattle.steps.proofs.refusal_at_end.Goals as goal
 
 pub returns-in-2 : goal.returns-in-2
 unfolding refusal_at_end
-returns-in-2 c = simp c.in_default.keys1
+returns-in-2 c = simp c.in-2.is
 
 pub returns-in_default : goal.returns-in_default
 unfolding refusal_at_end

@@ -4,18 +4,18 @@ use Rattle.steps.proofs.refusal_by.Goals as goal
 
 pub returns-in-true : goal.returns-in-true
 unfolding refusal_by
-returns-in-true c = simp (← c.breaks_order.ensures, c.if-breaks_order.true)
+returns-in-true c = simp (← c.breaks_order.ensures, c.in-true.is)
 
 pub returns-in-true-overfills : goal.returns-in-true-overfills
 unfolding refusal_by
 returns-in-true-overfills c =
     simp (
       ← c.breaks_order.ensures,
-      c.if-breaks_order.false,
+      c.in-false.is,
       ← c.fits2.ensures,
-      c.if-fits.true,
+      c.in-true-fits.is,
       ← c.overfills.ensures,
-      c.if-overfills.true,
+      c.in-true-overfills.is,
     )
 
 pub returns-in-false-overfills : goal.returns-in-false-overfills
@@ -23,11 +23,11 @@ unfolding refusal_by
 returns-in-false-overfills c =
     simp (
       ← c.breaks_order.ensures,
-      c.if-breaks_order.false,
+      c.in-false.is,
       ← c.fits2.ensures,
-      c.if-fits.true,
+      c.in-true-fits.is,
       ← c.overfills.ensures,
-      c.if-overfills.false,
+      c.in-false-overfills.is,
     )
 
 pub returns-in-false-fits : goal.returns-in-false-fits
@@ -35,7 +35,7 @@ unfolding refusal_by
 returns-in-false-fits c =
     simp (
       ← c.breaks_order.ensures,
-      c.if-breaks_order.false,
+      c.in-false.is,
       ← c.fits2.ensures,
-      c.if-fits.false,
+      c.in-false-fits.is,
     )

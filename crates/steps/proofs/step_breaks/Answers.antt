@@ -2,10 +2,10 @@
 use Rattle.steps.proofs.step_breaks.Goals as goal
 
 pub returns-in-Head : goal.returns-in-Head
-returns-in-Head c = simp c.enum_told-1.given.1
+returns-in-Head c = simp c.in-Head.is
 
 pub returns-in-HeadDeep : goal.returns-in-HeadDeep
-returns-in-HeadDeep c = simp c.enum_told-in-HeadDeep-1.given.1
+returns-in-HeadDeep c = simp c.in-HeadDeep.is
 
 pub returns-in-Goal : goal.returns-in-Goal
-returns-in-Goal c = simp (c.step-1.given.1, c.contains.ensures)
+returns-in-Goal c = simp (c.in-Goal.is, c.contains.ensures)

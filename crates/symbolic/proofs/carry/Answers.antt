@@ -4,7 +4,7 @@ use Rattle.symbolic.specs.TablesLaws.{begins-fits, carried-begins}
 use Rattle.symbolic.proofs.carry.Goals as goal
 
 pub want-after-requires : goal.want-after-requires
-want-after-requires c = (search rules, begins-fits c.line-1.given.1 c.requires.1)
+want-after-requires c = (search rules, begins-fits c.in-Begins.is c.requires.1)
 
 pub returns-in-Begins : goal.returns-in-Begins
 returns-in-Begins c =
@@ -12,7 +12,7 @@ returns-in-Begins c =
     (carried-begins
     _
     _
-    c.line-1.given.1
+    c.in-Begins.is
     c.call_at-claimed.ensures.0
     c.want-after.ensures
     (rw c.wanted_counts-before.ensures)
@@ -21,7 +21,7 @@ returns-in-Begins c =
 pub returns-in-Does : goal.returns-in-Does
 returns-in-Does c =
     simp (
-      c.line-in-Does-1.given.1,
+      c.in-Does.is,
       c.after_instruction.ensures,
       c.does-after.ensures,
     )

@@ -3,12 +3,12 @@ use Rattle.symbolic.specs.TablesLaws.{head_register}
 use Rattle.symbolic.proofs.want.Goals as goal
 
 pub register_name-name-requires : goal.register_name-name-requires
-register_name-name-requires c = head_register c.begins-1.given.1 c.requires.1
+register_name-name-requires c = head_register c.in-Head.is c.requires.1
 
 pub returns-in-Head : goal.returns-in-Head
 returns-in-Head c =
     simp (
-      c.begins-1.given.1,
+      c.in-Head.is,
       c.wanted_counts.ensures,
       c.fix.ensures.1,
       c.demand_again-demanded.ensures,
@@ -18,7 +18,7 @@ returns-in-Head c =
 pub returns-in-HeadDeep : goal.returns-in-HeadDeep
 returns-in-HeadDeep c =
     simp (
-      c.begins-in-HeadDeep-1.given.1,
+      c.in-HeadDeep.is,
       c.wanted_counts-in-HeadDeep.ensures,
       c.push_value-added.ensures.0,
       c.push_value-added.ensures.1,
@@ -29,7 +29,7 @@ returns-in-HeadDeep c =
 pub returns-in-Goal : goal.returns-in-Goal
 returns-in-Goal c =
     simp (
-      c.begins-in-Goal-1.given.1,
+      c.in-Goal.is,
       c.wanted_counts-in-Goal.ensures,
       c.push_value-added-in-Goal.ensures.0,
       c.push_value-added-in-Goal.ensures.1,
@@ -39,7 +39,7 @@ returns-in-Goal c =
 pub returns-in-GoalDeep : goal.returns-in-GoalDeep
 returns-in-GoalDeep c =
     simp (
-      c.begins-in-GoalDeep-1.given.1,
+      c.in-GoalDeep.is,
       c.wanted_counts-in-GoalDeep.ensures,
       c.push_value-added-in-GoalDeep.ensures.0,
       c.push_value-added-in-GoalDeep.ensures.1,
@@ -47,4 +47,4 @@ returns-in-GoalDeep c =
     )
 
 pub returns-in-Call : goal.returns-in-Call
-returns-in-Call c = simp (c.enum_told-1.given.1, c.wanted_counts-in-Call.ensures)
+returns-in-Call c = simp (c.in-Call.is, c.wanted_counts-in-Call.ensures)

@@ -2,7 +2,7 @@
 use Rattle.targets.proofs.argument_to_value.Goals as goal
 
 pub returns-in-Fact : goal.returns-in-Fact
-returns-in-Fact c = rw c.enum_told-1.given.1
+returns-in-Fact c = rw c.in-Fact.is
 
 pub returns-in-Query : goal.returns-in-Query
-returns-in-Query c = rw c.enum_told-in-Query-1.given.1
+returns-in-Query c = rw c.in-Query.is

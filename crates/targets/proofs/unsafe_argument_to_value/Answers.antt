@@ -2,10 +2,10 @@
 use Rattle.targets.proofs.unsafe_argument_to_value.Goals as goal
 
 pub returns-in-Fact : goal.returns-in-Fact
-returns-in-Fact c = rw c.enum_told-1.given.1
+returns-in-Fact c = rw c.in-Fact.is
 
 pub returns-in-Perm : goal.returns-in-Perm
-returns-in-Perm c = rw (c.enum_told-in-Query-1.given.1, c.r-1.given.1)
+returns-in-Perm c = rw (c.in-Query.is, c.in-Perm.is)
 
 pub returns-in-Temp : goal.returns-in-Temp
-returns-in-Temp c = rw (c.enum_told-in-Query-1.given.1, c.enum_told-in-Temp-1.given.1)
+returns-in-Temp c = rw (c.in-Query.is, c.in-Temp.is)

@@ -5,7 +5,7 @@ use Rattle.variable_records.proofs.allocation_of.Goals as goal
 
 pub returns-in-0 : goal.returns-in-0
 unfolding allocation_of
-returns-in-0 c = simp (c.in_default.keys1, ← c.context_of.ensures, c.safety_of.ensures)
+returns-in-0 c = simp (c.in-0.is, ← c.context_of.ensures, c.safety_of.ensures)
 
 pub returns-in_default : goal.returns-in_default
 unfolding allocation_of

@@ -4,8 +4,8 @@ use Rattle.variable_records.proofs.is_temporary.Goals as goal
 
 pub returns-in-Temp : goal.returns-in-Temp
 unfolding temporary is_temporary
-returns-in-Temp c = simp (← c.load-variable.ensures, c.enum_told-1.given.1)
+returns-in-Temp c = simp (← c.load-variable.ensures, c.in-Temp.is)
 
 pub returns-in-Perm : goal.returns-in-Perm
 unfolding temporary is_temporary
-returns-in-Perm c = simp (← c.load-variable.ensures, c.enum_told-in-Perm-1.given.1)
+returns-in-Perm c = simp (← c.load-variable.ensures, c.in-Perm.is)

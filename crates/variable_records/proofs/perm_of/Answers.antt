@@ -5,7 +5,7 @@ use Rattle.variable_records.proofs.perm_of.Goals as goal
 
 pub returns-in-0 : goal.returns-in-0
 unfolding perm_of
-returns-in-0 c = simp (c.in_default.keys1, ← c.safety_of.ensures, c.safety_of-in-0.ensures)
+returns-in-0 c = simp (c.in-0.is, ← c.safety_of.ensures, c.safety_of-in-0.ensures)
 
 pub returns-in_default : goal.returns-in_default
 unfolding perm_of

@@ -5,11 +5,11 @@ use Rattle.variable_records.proofs.safety_of.Goals as goal
 
 pub returns-in-0 : goal.returns-in-0
 unfolding safety_of
-returns-in-0 c = simp c.in_default.keys1
+returns-in-0 c = simp c.in-0.is
 
 pub returns-in-1 : goal.returns-in-1
 unfolding safety_of
-returns-in-1 c = simp c.in_default.keys2
+returns-in-1 c = simp c.in-1.is
 
 pub returns-in_default : goal.returns-in_default
 unfolding safety_of

@@ -2,10 +2,10 @@
 use Rattle.variable_records.proofs.safety_row.Goals as goal
 
 pub returns-in-Needed : goal.returns-in-Needed
-returns-in-Needed c = simp c.enum_told-1.given.1
+returns-in-Needed c = simp c.in-Needed.is
 
 pub returns-in-LocallyUnneeded : goal.returns-in-LocallyUnneeded
-returns-in-LocallyUnneeded c = simp c.safety-1.given.1
+returns-in-LocallyUnneeded c = simp c.in-LocallyUnneeded.is
 
 pub returns-in-GloballyUnneeded : goal.returns-in-GloballyUnneeded
-returns-in-GloballyUnneeded c = simp c.enum_told-in-GloballyUnneeded-1.given.1
+returns-in-GloballyUnneeded c = simp c.in-GloballyUnneeded.is

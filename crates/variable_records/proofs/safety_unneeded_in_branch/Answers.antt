@@ -2,4 +2,4 @@
 use Rattle.variable_records.proofs.safety_unneeded_in_branch.Goals as goal
 
 pub returns-in-LocallyUnneeded : goal.returns-in-LocallyUnneeded
-returns-in-LocallyUnneeded c = simp (c.safety-1.given.1, c.has_as_subbranch.ensures)
+returns-in-LocallyUnneeded c = simp (c.in-LocallyUnneeded.is, c.has_as_subbranch.ensures)

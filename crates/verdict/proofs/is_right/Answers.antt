@@ -1,5 +1,4 @@
 -- `verdict::is_right`: each part of the verdict in turn, by the labels of the pairs demanded and of those wanted. Assumes nothing.
-use borrow.Author.Tests.{not-true, not-false}
 use Rattle.verdict.specs.PartsLaws.{wants_unforced, claims_unforced, subterms_unforced, all_forced}
 use Rattle.verdict.proofs.is_right.Goals as goal
 

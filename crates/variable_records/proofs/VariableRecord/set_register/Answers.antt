@@ -2,7 +2,7 @@
 use Rattle.variable_records.proofs.VariableRecord.set_register.Goals as goal
 
 pub returns-in-Temp : goal.returns-in-Temp
-returns-in-Temp c = simp (c.allocation-1.given.1, c.allocated.ensures)
+returns-in-Temp c = simp (c.in-Temp.is, c.allocated.ensures)
 
 pub returns-in-Perm : goal.returns-in-Perm
-returns-in-Perm c = simp (c.allocation-in-Perm-1.given.1, c.allocated-in-Perm.ensures)
+returns-in-Perm c = simp (c.in-Perm.is, c.allocated-in-Perm.ensures)
