@@ -9,4 +9,4 @@ returns-in-1 c = simp c.in-1.is
 
 pub returns-in_default : goal.returns-in_default
 unfolding no_field
-returns-in_default c = simp (ne_eqb _ _ c.in_default.rest.1)
+returns-in_default c = simp (ne_eqb _ _ c.in_default.in_default-own.rest.1)

@@ -22,7 +22,7 @@ returns-then-not-is_in_use c =
     let r = c.register_of-r.ensures in
     let used = c.is_in_use.ensures ∙ ap (in_use a.counters) r in
     let h = c.loop-i-test.true in
-    ap Register r ∙ sym (l.invariant.1 ∙ first_hit _ a.use_set.now l.i h (ap not (sym used) ∙ c.if-not-is_in_use.true))
+    ap Register r ∙ sym (l.invariant.1 ∙ first_hit _ a.use_set.now l.i h (ap not (sym used ∙ c.if-not-is_in_use.true)))
 
 pub loop-i-preserved : goal.loop-i-preserved
 loop-i-preserved c =
@@ -30,7 +30,7 @@ loop-i-preserved c =
     let l = c.loop-i in
     let used = c.is_in_use.ensures ∙ ap (in_use a.counters) c.register_of-r.ensures in
     let h = c.loop-i-test.true in
-    (omega arith, l.invariant.1 ∙ first-miss _ a.use_set.now l.i h (ap not (sym used) ∙ c.if-not-is_in_use.false))
+    (omega arith, l.invariant.1 ∙ first-miss _ a.use_set.now l.i h (ap not (sym used ∙ c.if-not-is_in_use.false)))
 
 pub returns : goal.returns
 returns c =

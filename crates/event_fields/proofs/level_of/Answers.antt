@@ -20,4 +20,4 @@ returns-in-100 c = simp (same_letter (byte "r") refl, same_letter (byte "s") ref
 
 pub returns-in_default : goal.returns-in_default
 unfolding level_of
-returns-in_default c = simp (same_letter (byte "r") refl, same_letter (byte "s") refl, same_letter (byte "d") refl, ← c.only_byte.ensures, ne_eqb _ _ c.in_default.rest.0.0.1, ne_eqb _ _ c.in_default.rest.0.1, ne_eqb _ _ c.in_default.rest.1)
+returns-in_default c = simp (same_letter (byte "r") refl, same_letter (byte "s") refl, same_letter (byte "d") refl, ← c.only_byte.ensures, ne_eqb _ _ c.in_default.in_default-own.rest.0.0.1, ne_eqb _ _ c.in_default.in_default-own.rest.0.1, ne_eqb _ _ c.in_default.in_default-own.rest.1)

@@ -16,4 +16,4 @@ returns-in-113 c = simp (same_letter (byte "f") refl, same_letter (byte "q") ref
 
 pub returns-in_default : goal.returns-in_default
 unfolding target_of
-returns-in_default c = simp (same_letter (byte "f") refl, same_letter (byte "q") refl, ← c.only_byte.ensures, ne_eqb _ _ c.in_default.rest.0.1, ne_eqb _ _ c.in_default.rest.1)
+returns-in_default c = simp (same_letter (byte "f") refl, same_letter (byte "q") refl, ← c.only_byte.ensures, ne_eqb _ _ c.in_default.in_default-own.rest.0.1, ne_eqb _ _ c.in_default.in_default-own.rest.1)

@@ -31,10 +31,10 @@ pub returns-in_default : goal.returns-in_default
 unfolding event_among
 returns-in_default c =
     simp (
-      ne_eqb _ _ c.in_default.rest.1,
-      ne_eqb _ _ c.in_default.rest.0.1,
-      ne_eqb _ _ c.in_default.rest.0.0.1,
-      ne_eqb _ _ c.in_default.rest.0.0.0.1,
-      ne_eqb _ _ c.in_default.rest.0.0.0.0.1,
-      ne_eqb _ _ c.in_default.rest.0.0.0.0.0.1,
+      ne_eqb _ _ c.in_default.in_default-own.rest.1,
+      ne_eqb _ _ c.in_default.in_default-own.rest.0.1,
+      ne_eqb _ _ c.in_default.in_default-own.rest.0.0.1,
+      ne_eqb _ _ c.in_default.in_default-own.rest.0.0.0.1,
+      ne_eqb _ _ c.in_default.in_default-own.rest.0.0.0.0.1,
+      ne_eqb _ _ c.in_default.in_default-own.rest.0.0.0.0.0.1,
     )

@@ -28,7 +28,7 @@ pub returns-in_default : goal.returns-in_default
 unfolding list_line
 returns-in_default c =
     let a = c.args in
-    let k = c.in_default.rest in (
+    let k = c.in_default.in_default-own.rest in (
       simp (ne_eqb _ _ k.1, ne_eqb _ _ k.0.1, ne_eqb _ _ k.0.0.1),
       put_no_entries a.code (fields_left tab a.rest.now) a.list.now (λ l. omega (arith, k)),
     )

@@ -18,4 +18,4 @@ returns-in-19 c = simp (c.in-19.is, ← c.one_number-in-19.ensures, c.nonvar_lin
 pub returns-in_default : goal.returns-in_default
 unfolding mark_of
 returns-in_default c =
-    simp (ne_eqb _ _ c.in_default.rest.1, ne_eqb _ _ c.in_default.rest.0.1, ne_eqb _ _ c.in_default.rest.0.0.1)
+    simp (ne_eqb _ _ c.in_default.in_default-own.rest.1, ne_eqb _ _ c.in_default.in_default-own.rest.0.1, ne_eqb _ _ c.in_default.in_default-own.rest.0.0.1)

@@ -48,4 +48,4 @@ unfolding word_of
 returns-in-10 c = rw c.in-10.is c.put_word-in-10.ensures
 
 pub returns-in_default : goal.returns-in_default
-returns-in_default c = absurd (none_left c.args.number 11 c.in_default.rest c.requires)
+returns-in_default c = absurd (none_left c.args.number 11 c.in_default.in_default-own.rest c.requires)

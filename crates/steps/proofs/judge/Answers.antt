@@ -22,4 +22,4 @@ returns-in-0 c =
 
 pub returns-in_default : goal.returns-in_default
 unfolding judged judged_as
-returns-in_default c = simp (← c.refusal_by-refusal.ensures, ne_eqb _ _ c.in_default.rest.1, c.with_refusal-in_default.ensures)
+returns-in_default c = simp (← c.refusal_by-refusal.ensures, ne_eqb _ _ c.in_default.in_default-own.rest.1, c.with_refusal-in_default.ensures)

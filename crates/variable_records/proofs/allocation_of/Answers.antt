@@ -9,4 +9,4 @@ returns-in-0 c = simp (c.in-0.is, ← c.context_of.ensures, c.safety_of.ensures)
 
 pub returns-in_default : goal.returns-in_default
 unfolding allocation_of
-returns-in_default c = simp (ne_eqb _ _ c.in_default.rest.1, c.perm_of.ensures)
+returns-in_default c = simp (ne_eqb _ _ c.in_default.in_default-own.rest.1, c.perm_of.ensures)

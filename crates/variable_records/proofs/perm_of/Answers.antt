@@ -9,4 +9,4 @@ returns-in-0 c = simp (c.in-0.is, ← c.safety_of.ensures, c.safety_of-in-0.ensu
 
 pub returns-in_default : goal.returns-in_default
 unfolding perm_of
-returns-in_default c = simp (ne_eqb _ _ c.in_default.rest.1)
+returns-in_default c = simp (ne_eqb _ _ c.in_default.in_default-own.rest.1)
