@@ -31,8 +31,8 @@ returns c =
       (
         c.pend_members.ensures ∙ records_taken_lem _ _ _ _ _ _ takes top safety,
         (
-          c.put_top.ensures.0 ∙ rows_taken_lem _ _ _ _ _ _ takes top safety,
-          c.put_top.ensures.1 ∙ sets_taken_lem _ _ _ _ _ _ takes top safety,
+          c.put_top.ensures.rows_after ∙ rows_taken_lem _ _ _ _ _ _ takes top safety,
+          c.put_top.ensures.sets_after ∙ sets_taken_lem _ _ _ _ _ _ takes top safety,
         ),
       ),
     )

@@ -19,5 +19,5 @@ unfolding recorded rows_recorded sets_recorded
 returns c =
     let top = c.top_of-top.ensures in
     let within = lt-leb _ _ c.if-top.false in
-    simp (ne_eqb _ _ c.if-open_branches-eq0.false, ← top, within, c.put_top.ensures.0, c.put_top.ensures.1, c.insert.ensures)
+    simp (ne_eqb _ _ c.if-open_branches-eq0.false, ← top, within, c.put_top.ensures.rows_after, c.put_top.ensures.sets_after, c.insert.ensures)
     (refl, (refl, refl))

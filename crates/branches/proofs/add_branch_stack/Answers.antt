@@ -11,5 +11,5 @@ returns-then-open_branches c = simp (le-leb _ _ c.if-open_branches.true) (refl, 
 pub returns : goal.returns
 unfolding opening rows_opened sets_opened
 returns c =
-    simp (lt-leb _ _ c.if-open_branches.false, c.store.ensures.0, c.store.ensures.1, c.opened.ensures)
+    simp (lt-leb _ _ c.if-open_branches.false, c.store.ensures.rows_after, c.store.ensures.sets_after, c.opened.ensures)
     (refl, (refl, refl))

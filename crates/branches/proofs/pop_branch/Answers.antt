@@ -39,8 +39,8 @@ returns c =
       (
         c.close_variables.ensures ∙ records_popped_lem _ _ _ _ _ _ _ _ closes met joined,
         (
-          c.put_top.ensures.0 ∙ rows_popped_lem _ _ _ _ _ _ _ _ closes met joined,
-          c.put_top.ensures.1 ∙ sets_popped_lem _ _ _ _ _ _ _ _ closes met joined,
+          c.put_top.ensures.rows_after ∙ rows_popped_lem _ _ _ _ _ _ _ _ closes met joined,
+          c.put_top.ensures.sets_after ∙ sets_popped_lem _ _ _ _ _ _ _ _ closes met joined,
         ),
       ),
     )

@@ -18,13 +18,13 @@ pub add_clause-length-requires : goal.add_clause-length-requires
 add_clause-length-requires c = omega (arith, lines_short c.loop-rest.invariant c.loop-rest-test.true c.end_of-end.ensures c.part_before.ensures (sym c.is.ensures ∙ c.if-not-is.false) c.part_after-behind.ensures c.end_of_clause-end_of_lines.ensures c.part_before-in-loop-rest.ensures refl, c.loop-rest.invariant.short)
 
 pub overflow_add-length : goal.overflow_add-length
-overflow_add-length c = omega (arith, count_short c.loop-rest.invariant c.loop-rest-test.true c.end_of-end.ensures c.part_before.ensures (sym c.is.ensures ∙ c.if-not-is.false) c.part_after-behind.ensures c.end_of_clause-end_of_lines.ensures c.part_before-in-loop-rest.ensures refl c.add_clause-length.ensures.0)
+overflow_add-length c = omega (arith, count_short c.loop-rest.invariant c.loop-rest-test.true c.end_of-end.ensures c.part_before.ensures (sym c.is.ensures ∙ c.if-not-is.false) c.part_after-behind.ensures c.end_of_clause-end_of_lines.ensures c.part_before-in-loop-rest.ensures refl c.add_clause-length.ensures.value)
 
 pub loop-rest-smaller : goal.loop-rest-smaller
 loop-rest-smaller c = next_shorter c.loop-rest.invariant c.loop-rest-test.true c.end_of-end.ensures c.part_before.ensures (sym c.is.ensures ∙ c.if-not-is.false) c.part_after-behind.ensures c.end_of_clause-end_of_lines.ensures c.part_before-in-loop-rest.ensures c.rest_after-next.ensures
 
 pub loop-rest-preserved : goal.loop-rest-preserved
-loop-rest-preserved c = going_on_lem c.loop-rest.invariant c.loop-rest-test.true c.end_of-end.ensures c.part_before.ensures (sym c.is.ensures ∙ c.if-not-is.false) c.part_after-behind.ensures c.end_of_clause-end_of_lines.ensures c.part_before-in-loop-rest.ensures c.rest_after-next.ensures c.add_clause-length.ensures.0 c.add_clause-length.ensures.1
+loop-rest-preserved c = going_on_lem c.loop-rest.invariant c.loop-rest-test.true c.end_of-end.ensures c.part_before.ensures (sym c.is.ensures ∙ c.if-not-is.false) c.part_after-behind.ensures c.end_of_clause-end_of_lines.ensures c.part_before-in-loop-rest.ensures c.rest_after-next.ensures c.add_clause-length.ensures.value c.add_clause-length.ensures.fronts
 
 pub shape_of-out : goal.shape_of-out
 shape_of-out c = c.loop-rest.invariant.room

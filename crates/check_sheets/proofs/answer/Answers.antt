@@ -19,5 +19,5 @@ returns-in-Decided c =
     c.if-sheet-gt-SHEET_BYTES.false
     c.run_lines-run.ensures
     c.in-Decided.is
-    c.write_verdict.ensures.0
-    c.write_verdict.ensures.1)
+    c.write_verdict.ensures.value
+    c.write_verdict.ensures.out_after)

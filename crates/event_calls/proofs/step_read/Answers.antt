@@ -11,20 +11,20 @@ use Rattle.event_calls.proofs.step_read.Goals as goal
 
 pub slice_bounds-step-end : goal.slice_bounds-step-end
 slice_bounds-step-end c =
-    let short = count_within _ c.read_line-said.ensures.0 _ c.in-Says.is c.requires c.read_line-said.ensures.1 in
+    let short = count_within _ c.read_line-said.ensures.value _ c.in-Says.is c.requires c.read_line-said.ensures.list_after in
     search (rules, short)
 
 pub shape_of-list-in-Malformed : goal.shape_of-list-in-Malformed
-shape_of-list-in-Malformed c = ap length c.read_line-said.ensures.1 ∙ printed-length _ _ _
+shape_of-list-in-Malformed c = ap length c.read_line-said.ensures.list_after ∙ printed-length _ _ _
 
 pub returns-in-Malformed : goal.returns-in-Malformed
-returns-in-Malformed c = line-malformed _ c.read_line-said.ensures.0 _ c.in-Malformed.is c.malformed.ensures
+returns-in-Malformed c = line-malformed _ c.read_line-said.ensures.value _ c.in-Malformed.is c.malformed.ensures
 
 pub shape_of-list-in-Says : goal.shape_of-list-in-Says
-shape_of-list-in-Says c = ap length c.read_line-said.ensures.1 ∙ printed-length _ _ _
+shape_of-list-in-Says c = ap length c.read_line-said.ensures.list_after ∙ printed-length _ _ _
 
 pub returns-in-Says : goal.returns-in-Says
 returns-in-Says c =
     let said = c.said-1.given in
     let all : said.0.1.0 - 0 ≡ said.0.1.0 = omega arith in
-    line_said _ c.read_line-said.ensures.0 _ said.1 c.requires c.read_line-said.ensures.1 _ (ap (λ (k : ℕ). take k c.read_line-said.new.1.0) all) c.step.ensures
+    line_said _ c.read_line-said.ensures.value _ said.1 c.requires c.read_line-said.ensures.list_after _ (ap (λ (k : ℕ). take k c.read_line-said.new.1.0) all) c.step.ensures

@@ -10,61 +10,40 @@ use Rattle.event_lines.proofs.line_of.Goals as goal
 pub returns-in-16 : goal.returns-in-16
 returns-in-16 c =
     let a = c.args in
-    let fields = fields_left tab a.rest.now in (
-      c.with_three.ensures ∙ ap with_three c.three_numbers.ensures ∙ sym (said_three a.code fields c.in-16.is),
-      put_no_entries a.code fields a.list.now (λ l. omega arith),
-    )
+    let fields = fields_left tab a.rest.now in (record { value = c.with_three.ensures ∙ ap with_three c.three_numbers.ensures ∙ sym (said_three a.code fields c.in-16.is); list_after = put_no_entries a.code fields a.list.now (λ l. omega arith) })
 
 pub returns-in-1-to-6 : goal.returns-in-1-to-6
 returns-in-1-to-6 c =
     let a = c.args in
-    let fields = fields_left tab a.rest.now in (
-      c.bare_line.ensures ∙ sym (said_bare a.code fields (omega arith)),
-      put_no_entries a.code fields a.list.now (λ l. omega arith),
-    )
+    let fields = fields_left tab a.rest.now in (record { value = c.bare_line.ensures ∙ sym (said_bare a.code fields (omega arith)); list_after = put_no_entries a.code fields a.list.now (λ l. omega arith) })
 
 pub returns-in-7-to-12 : goal.returns-in-7-to-12
 returns-in-7-to-12 c =
     let a = c.args in
-    let fields = fields_left tab a.rest.now in (
-      c.with_one.ensures ∙ ap (with_one a.code) c.one_number.ensures ∙ sym (said_one a.code fields (omega arith) (omega arith)),
-      put_no_entries a.code fields a.list.now (λ l. omega arith),
-    )
+    let fields = fields_left tab a.rest.now in (record { value = c.with_one.ensures ∙ ap (with_one a.code) c.one_number.ensures ∙ sym (said_one a.code fields (omega arith) (omega arith)); list_after = put_no_entries a.code fields a.list.now (λ l. omega arith) })
 
 pub returns-in-13-to-15 : goal.returns-in-13-to-15
 returns-in-13-to-15 c =
     let a = c.args in
-    let fields = fields_left tab a.rest.now in (
-      c.with_two.ensures ∙ ap (with_two a.code) c.two_numbers.ensures ∙ sym (said_two a.code fields (omega arith) (omega arith)),
-      put_no_entries a.code fields a.list.now (λ l. omega arith),
-    )
+    let fields = fields_left tab a.rest.now in (record { value = c.with_two.ensures ∙ ap (with_two a.code) c.two_numbers.ensures ∙ sym (said_two a.code fields (omega arith) (omega arith)); list_after = put_no_entries a.code fields a.list.now (λ l. omega arith) })
 
 pub returns-in-17-to-19 : goal.returns-in-17-to-19
 returns-in-17-to-19 c =
     let a = c.args in
-    let fields = fields_left tab a.rest.now in (
-      c.mark_line.ensures ∙ sym (said_mark a.code fields (omega arith) (omega arith)),
-      put_no_entries a.code fields a.list.now (λ l. omega arith),
-    )
+    let fields = fields_left tab a.rest.now in (record { value = c.mark_line.ensures ∙ sym (said_mark a.code fields (omega arith) (omega arith)); list_after = put_no_entries a.code fields a.list.now (λ l. omega arith) })
 
 pub returns-in-20-to-22 : goal.returns-in-20-to-22
 returns-in-20-to-22 c =
     let a = c.args in
     let said = c.list_line.ensures in
-    (said.0 ∙ sym (said_list a.code (fields_left tab a.rest.now) (omega arith)), said.1)
+    (record { value = said.0 ∙ sym (said_list a.code (fields_left tab a.rest.now) (omega arith)); list_after = said.1 })
 
 pub returns-in_default : goal.returns-in_default
 returns-in_default c =
     let a = c.args in
-    let fields = fields_left tab a.rest.now in (
-      sym (said_unknown a.code fields (omega arith)),
-      put_no_entries a.code fields a.list.now (λ l. omega arith),
-    )
+    let fields = fields_left tab a.rest.now in (record { value = sym (said_unknown a.code fields (omega arith)); list_after = put_no_entries a.code fields a.list.now (λ l. omega arith) })
 
 pub returns-in_default-2 : goal.returns-in_default-2
 returns-in_default-2 c =
     let a = c.args in
-    let fields = fields_left tab a.rest.now in (
-      sym (said_past a.code fields (omega arith)),
-      put_no_entries a.code fields a.list.now (λ l. omega arith),
-    )
+    let fields = fields_left tab a.rest.now in (record { value = sym (said_past a.code fields (omega arith)); list_after = put_no_entries a.code fields a.list.now (λ l. omega arith) })

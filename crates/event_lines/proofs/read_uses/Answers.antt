@@ -18,7 +18,7 @@ returns-then-is c =
     let whole = sym ends ∙ c.if-end-rest.true in
     let part = c.field-field.ensures ∙ ap (λ (k : ℕ). take (k - 1) (drop 1 rest)) ends in
     let dash = sym (ap (λ (s : List ℕ). same s (bytes "-")) part) ∙ sym c.is.ensures ∙ c.if-is.true in
-    (sym (uses-none rest whole dash), rw (uses-none-list rest whole dash) (sym (put-none a.list.now 0)))
+    (record { value = sym (uses-none rest whole dash); list_after = rw (uses-none-list rest whole dash) (sym (put-none a.list.now 0)) })
 
 pub returns-then-end-rest : goal.returns-then-end-rest
 returns-then-end-rest c =
@@ -27,10 +27,7 @@ returns-then-end-rest c =
     let ends = c.end_of_field-end.ensures in
     let whole = sym ends ∙ c.if-end-rest.true in
     let part = c.field-field.ensures ∙ ap (λ (k : ℕ). take (k - 1) (drop 1 rest)) ends in
-    let other = sym (ap (λ (s : List ℕ). same s (bytes "-")) part) ∙ sym c.is.ensures ∙ c.if-is.false in (
-      c.read_list.ensures.0 ∙ sym (uses-some rest whole other),
-      rw (uses-some-list rest whole other) c.read_list.ensures.1,
-    )
+    let other = sym (ap (λ (s : List ℕ). same s (bytes "-")) part) ∙ sym c.is.ensures ∙ c.if-is.false in (record { value = c.read_list.ensures.value ∙ sym (uses-some rest whole other); list_after = rw (uses-some-list rest whole other) c.read_list.ensures.list_after })
 
 pub returns : goal.returns
 returns c =
@@ -38,4 +35,4 @@ returns c =
     let rest = a.rest.now in
     let ends = c.end_of_field-end.ensures in
     let not_last : (field_end tab rest ≡ length rest → ⊥) = λ whole. c.if-end-rest.false (ends ∙ whole) in
-    (sym (uses-other rest not_last), rw (uses-other-list rest not_last) (sym (put-none a.list.now 0)))
+    (record { value = sym (uses-other rest not_last); list_after = rw (uses-other-list rest not_last) (sym (put-none a.list.now 0)) })

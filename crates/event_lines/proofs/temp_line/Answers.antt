@@ -6,10 +6,9 @@ use Rattle.event_lines.proofs.temp_line.Goals as goal
 pub returns : goal.returns
 returns c =
     let rest = c.args.rest.now in
-    (
-      simp (
+    (record { value = simp (
         c.recorded.ensures,
-        c.read_uses-uses.ensures.0,
+        c.read_uses-uses.ensures.value,
         c.read-occurrences.ensures,
         c.context_of-context.ensures,
         c.rest_after-from_uses.ensures,
@@ -19,13 +18,11 @@ returns c =
         c.field-context_field.ensures,
         c.end_of_field-context_end.ensures,
       )
-          (sym (temp_step rest)),
-      simp (
-        c.read_uses-uses.ensures.1,
+          (sym (temp_step rest)); list_after = simp (
+        c.read_uses-uses.ensures.list_after,
         c.rest_after-from_uses.ensures,
         c.end_of_field-count_end.ensures,
         c.rest_after-from_count.ensures,
         c.end_of_field-context_end.ensures,
         temp_list-step rest,
-      ),
-    )
+      ) })

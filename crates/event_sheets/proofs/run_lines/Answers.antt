@@ -59,7 +59,7 @@ pub shape_of-list : goal.shape_of-list
 shape_of-list c = c.loop-end.invariant.2
 
 pub shape_of-out : goal.shape_of-out
-shape_of-out c = ap length c.finish.ensures.1 ∙ printed-length _ _ _ ∙ c.loop-end.invariant.0.room
+shape_of-out c = ap length c.finish.ensures.out_after ∙ printed-length _ _ _ ∙ c.loop-end.invariant.0.room
 
 pub returns : goal.returns
-returns c = going-last c.loop-end.invariant.0 c.loop-end-test.false c.finish.ensures.0 c.finish.ensures.1
+returns c = going-last c.loop-end.invariant.0 c.loop-end-test.false c.finish.ensures.value c.finish.ensures.out_after

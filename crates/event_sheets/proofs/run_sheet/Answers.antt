@@ -6,10 +6,10 @@ pub returns-then-sheet-gt-SHEET_BYTES : goal.returns-then-sheet-gt-SHEET_BYTES
 returns-then-sheet-gt-SHEET_BYTES c = run_full _ _ _ c.if-sheet-gt-SHEET_BYTES.true
 
 pub returns-then-sheet-le-SMALL_SHEET : goal.returns-then-sheet-le-SMALL_SHEET
-returns-then-sheet-le-SMALL_SHEET c = run_within _ _ _ c.if-sheet-gt-SHEET_BYTES.false c.run_lines.ensures.0 c.run_lines.ensures.1
+returns-then-sheet-le-SMALL_SHEET c = run_within _ _ _ c.if-sheet-gt-SHEET_BYTES.false c.run_lines.ensures.value c.run_lines.ensures.out_after
 
 pub returns-then-sheet-le-SHORT_SHEET : goal.returns-then-sheet-le-SHORT_SHEET
-returns-then-sheet-le-SHORT_SHEET c = run_within _ _ _ c.if-sheet-gt-SHEET_BYTES.false c.run_lines-then-sheet-le-SHORT_SHEET.ensures.0 c.run_lines-then-sheet-le-SHORT_SHEET.ensures.1
+returns-then-sheet-le-SHORT_SHEET c = run_within _ _ _ c.if-sheet-gt-SHEET_BYTES.false c.run_lines-then-sheet-le-SHORT_SHEET.ensures.value c.run_lines-then-sheet-le-SHORT_SHEET.ensures.out_after
 
 pub returns : goal.returns
-returns c = run_within _ _ _ c.if-sheet-gt-SHEET_BYTES.false c.run_lines-2.ensures.0 c.run_lines-2.ensures.1
+returns c = run_within _ _ _ c.if-sheet-gt-SHEET_BYTES.false c.run_lines-2.ensures.value c.run_lines-2.ensures.out_after

@@ -46,4 +46,4 @@ pub returns-in-Perm : goal.returns-in-Perm
 returns-in-Perm c = simp c.in-Perm.is
 
 pub returns-in_default : goal.returns-in_default
-returns-in_default c = not-record c.args.event c.in_default.keys3
+returns-in_default c = not-record c.args.event c.in_default.in_default-own.keys3

@@ -9,9 +9,9 @@ use Rattle.fenomirask.proofs.fenomirask_bundle.Goals as goal
 
 pub number_of-requires : goal.number_of-requires
 number_of-requires c =
-    bundle-fits c.args.sheet.now _ (omega (arith, c.well_formed.1.0.1)) c.answer-answered.ensures.0
+    bundle-fits c.args.sheet.now _ (omega (arith, c.well_formed.1.0.1)) c.answer-answered.ensures.value
 
 pub returns : goal.returns
 returns c =
     let answered = c.answer-answered.ensures in
-    (read_back c.number_of.type_inv (c.number_of.ensures ∙ ap number_of answered.0), answered.1)
+    (record { value = read_back c.number_of.type_inv (c.number_of.ensures ∙ ap number_of answered.0); out_after = answered.1 })

@@ -9,7 +9,7 @@ use Rattle.fenomirask.proofs.last.Goals as goal
 
 pub number_of-requires : goal.number_of-requires
 number_of-requires c =
-    last_fits c.args.state _ (omega (arith, c.well_formed.1.0.1)) c.put_last-answered.ensures.0
+    last_fits c.args.state _ (omega (arith, c.well_formed.1.0.1)) c.put_last-answered.ensures.value
 
 pub returns : goal.returns
 returns c =

@@ -11,7 +11,7 @@ use Rattle.fenomirask.proofs.step.Goals as goal
 pub number_of-number-requires : goal.number_of-number-requires
 number_of-number-requires c =
     call_fits c.args.state _ (omega (arith, c.well_formed.1.1.0.1)) c.args.line.now
-    (ap (λ (k : Called). k.answered) c.call-called.ensures.0)
+    (ap (λ (k : Called). k.answered) c.call-called.ensures.value)
 
 pub returns : goal.returns
 returns c =

@@ -5,9 +5,9 @@ use Rattle.replies.proofs.put_bundle_reply.Goals as goal
 pub put_told-requires : goal.put_told-requires
 put_told-requires c =
     let a = c.args in
-    bundle_printable a.bundle.now a.out.now c.answer-answered.ensures.0
+    bundle_printable a.bundle.now a.out.now c.answer-answered.ensures.value
 
 pub returns : goal.returns
 returns c =
     let a = c.args in
-    bundle-put a.bundle.now a.out.now c.answer-answered.ensures.0 c.answer-answered.ensures.1 c.put_told.ensures
+    bundle-put a.bundle.now a.out.now c.answer-answered.ensures.value c.answer-answered.ensures.out_after c.put_told.ensures

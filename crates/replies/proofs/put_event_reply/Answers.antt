@@ -5,9 +5,9 @@ use Rattle.replies.proofs.put_event_reply.Goals as goal
 pub put_told-requires : goal.put_told-requires
 put_told-requires c =
     let a = c.args in
-    event_printable a.sheet.now a.out.now c.answer-answered.ensures.0
+    event_printable a.sheet.now a.out.now c.answer-answered.ensures.value
 
 pub returns : goal.returns
 returns c =
     let a = c.args in
-    event_put a.sheet.now a.out.now c.answer-answered.ensures.0 c.answer-answered.ensures.1 c.put_told.ensures
+    event_put a.sheet.now a.out.now c.answer-answered.ensures.value c.answer-answered.ensures.out_after c.put_told.ensures

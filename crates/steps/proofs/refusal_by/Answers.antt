@@ -12,7 +12,7 @@ returns-in-true-overfills c =
     simp (
       ← c.breaks_order.ensures,
       c.in-false.is,
-      ← c.fits2.ensures,
+      ← c.fits.ensures,
       c.in-true-fits.is,
       ← c.overfills.ensures,
       c.in-true-overfills.is,
@@ -24,7 +24,7 @@ returns-in-false-overfills c =
     simp (
       ← c.breaks_order.ensures,
       c.in-false.is,
-      ← c.fits2.ensures,
+      ← c.fits.ensures,
       c.in-true-fits.is,
       ← c.overfills.ensures,
       c.in-false-overfills.is,
@@ -36,6 +36,6 @@ returns-in-false-fits c =
     simp (
       ← c.breaks_order.ensures,
       c.in-false.is,
-      ← c.fits2.ensures,
+      ← c.fits.ensures,
       c.in-false-fits.is,
     )

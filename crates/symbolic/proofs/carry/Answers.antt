@@ -13,10 +13,10 @@ returns-in-Begins c =
     _
     _
     c.in-Begins.is
-    c.call_at-claimed.ensures.0
+    c.call_at-claimed.ensures.result_after
     c.want-after.ensures
     (rw c.wanted_counts-before.ensures)
-    c.call_at-claimed.ensures.1)
+    c.call_at-claimed.ensures.places_after)
 
 pub returns-in-Does : goal.returns-in-Does
 returns-in-Does c =

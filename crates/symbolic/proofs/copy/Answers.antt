@@ -3,4 +3,4 @@ use borrow.Author.Rules.{rules}
 use Rattle.symbolic.proofs.copy.Goals as goal
 
 pub returns : goal.returns
-returns c = (search rules, simp (← c.held-name.ensures, c.put.ensures))
+returns c = (record { value = search rules; places_after = simp (← c.held-name.ensures, c.put.ensures) })

@@ -9,11 +9,11 @@ returns-then-value-eq-NO_NAME c =
     let a = c.args in
     let reads = c.value_at-value.ensures in
     let first = value-first a.values.now a.v a.offered reads c.if-value-eq-NO_NAME.true in
-    (first, c.write_value.ensures ∙ ap (set a.values.now a.v) first)
+    (record { value = first; values_after = c.write_value.ensures ∙ ap (set a.values.now a.v) first })
 
 pub returns : goal.returns
 returns c =
     let a = c.args in
     let reads = c.value_at-value.ensures in
     let later = c.if-value-eq-NO_NAME.false in
-    (value-later a.values.now a.v a.offered reads later, value_kept_lem a.values.now a.v a.offered reads later)
+    (record { value = value-later a.values.now a.v a.offered reads later; values_after = value_kept_lem a.values.now a.v a.offered reads later })

@@ -3,4 +3,4 @@ use borrow.Author.Rules.{rules}
 use Rattle.symbolic.proofs.get_value.Goals as goal
 
 pub returns : goal.returns
-returns c = (simp (← c.held-argument.ensures, ← c.held-content.ensures, c.push-demanded.ensures), search rules)
+returns c = (record { demands_after = simp (← c.held-argument.ensures, ← c.held-content.ensures, c.push-demanded.ensures); made_value = search rules })

@@ -2,4 +2,4 @@
 use Rattle.symbolic.proofs.push_value.Goals as goal
 
 pub returns : goal.returns
-returns c = (simp (← c.fix-value.ensures.0, c.push.ensures), c.fix-value.ensures.1)
+returns c = (record { result_after = simp (← c.fix-value.ensures.value, c.push.ensures); values_after = c.fix-value.ensures.values_after })

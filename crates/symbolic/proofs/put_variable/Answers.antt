@@ -3,4 +3,4 @@ use borrow.Author.Rules.{rules}
 use Rattle.symbolic.proofs.put_variable.Goals as goal
 
 pub returns : goal.returns
-returns c = (search rules, simp (← c.step_name-name.ensures, ← c.put.ensures, c.put-2.ensures))
+returns c = (record { value = search rules; places_after = simp (← c.step_name-name.ensures, ← c.put.ensures, c.put-2.ensures) })

@@ -3,4 +3,4 @@ use borrow.Author.Rules.{rules}
 use Rattle.symbolic.proofs.set_value.Goals as goal
 
 pub returns : goal.returns
-returns c = (simp (← c.held-content.ensures, c.push-added.ensures), search rules)
+returns c = (record { made_after = simp (← c.held-content.ensures, c.push-added.ensures); demands_value = search rules })

@@ -4,4 +4,4 @@ use Rattle.symbolic.proofs.unify_value.Goals as goal
 pub returns : goal.returns
 returns c =
     let named = c.step_name-name.ensures in
-    (simp (← named, ← c.held-content.ensures, c.push-demanded.ensures), simp (← named, c.push-added.ensures))
+    (record { demands_after = simp (← named, ← c.held-content.ensures, c.push-demanded.ensures); made_after = simp (← named, c.push-added.ensures) })

@@ -10,7 +10,7 @@ returns-in-Head c =
     simp (
       c.in-Head.is,
       c.wanted_counts.ensures,
-      c.fix.ensures.1,
+      c.fix.ensures.values_after,
       c.demand_again-demanded.ensures,
       c.register_name-name.ensures,
     )
@@ -20,8 +20,8 @@ returns-in-HeadDeep c =
     simp (
       c.in-HeadDeep.is,
       c.wanted_counts-in-HeadDeep.ensures,
-      c.push_value-added.ensures.0,
-      c.push_value-added.ensures.1,
+      c.push_value-added.ensures.result_after,
+      c.push_value-added.ensures.values_after,
       c.demand_again-demanded-in-HeadDeep.ensures,
       c.step_name-name.ensures,
     )
@@ -31,8 +31,8 @@ returns-in-Goal c =
     simp (
       c.in-Goal.is,
       c.wanted_counts-in-Goal.ensures,
-      c.push_value-added-in-Goal.ensures.0,
-      c.push_value-added-in-Goal.ensures.1,
+      c.push_value-added-in-Goal.ensures.result_after,
+      c.push_value-added-in-Goal.ensures.values_after,
       c.step_name.ensures,
     )
 
@@ -41,8 +41,8 @@ returns-in-GoalDeep c =
     simp (
       c.in-GoalDeep.is,
       c.wanted_counts-in-GoalDeep.ensures,
-      c.push_value-added-in-GoalDeep.ensures.0,
-      c.push_value-added-in-GoalDeep.ensures.1,
+      c.push_value-added-in-GoalDeep.ensures.result_after,
+      c.push_value-added-in-GoalDeep.ensures.values_after,
       c.step_name-in-GoalDeep.ensures,
     )
 
