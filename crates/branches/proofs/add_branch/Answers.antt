@@ -8,14 +8,14 @@ use Rattle.branches.proofs.add_branch.Goals as goal
 
 pub returns-then-open_branches-eq0 : goal.returns-then-open_branches-eq0
 unfolding taken records_taken rows_taken sets_taken
-returns-then-open_branches-eq0 c = simp (eq-eqb _ _ c.if-open_branches-eq0.true) (refl, (refl, (refl, refl)))
+returns-then-open_branches-eq0 c = simp (eq-eqb _ _ c.if-open_branches-eq0.true) (record { value = refl; records_after = refl; rows_after = refl; sets_after = refl })
 
 pub returns-then-holds_temporary : goal.returns-then-holds_temporary
 unfolding taken records_taken rows_taken sets_taken
 returns-then-holds_temporary c =
     let top = c.top_of-top.ensures in
     let held = c.holds_temporary.ensures in
-    simp (ne_eqb _ _ c.if-open_branches-eq0.false, ← top, ← held, c.if-holds_temporary.true) (refl, (refl, (refl, refl)))
+    simp (ne_eqb _ _ c.if-open_branches-eq0.false, ← top, ← held, c.if-holds_temporary.true) (record { value = refl; records_after = refl; rows_after = refl; sets_after = refl })
 
 pub returns : goal.returns
 unfolding taken
@@ -26,13 +26,4 @@ returns c =
     let takes : taken a.records.now a.rows.now a.sets.now a.open_branches ≡ Took =
     simp (ne_eqb _ _ c.if-open_branches-eq0.false, ← top, ← held, c.if-holds_temporary.false)
     in
-    let safety = c.take_safety-taken.ensures in (
-      sym takes,
-      (
-        c.pend_members.ensures ∙ records_taken_lem _ _ _ _ _ _ takes top safety,
-        (
-          c.put_top.ensures.rows_after ∙ rows_taken_lem _ _ _ _ _ _ takes top safety,
-          c.put_top.ensures.sets_after ∙ sets_taken_lem _ _ _ _ _ _ takes top safety,
-        ),
-      ),
-    )
+    let safety = c.take_safety-taken.ensures in (record { value = sym takes; records_after = c.pend_members.ensures ∙ records_taken_lem _ _ _ _ _ _ takes top safety; rows_after = c.put_top.ensures.rows_after ∙ rows_taken_lem _ _ _ _ _ _ takes top safety; sets_after = c.put_top.ensures.sets_after ∙ sets_taken_lem _ _ _ _ _ _ takes top safety })

@@ -6,10 +6,10 @@ use Rattle.branches.proofs.add_branch_stack.Goals as goal
 
 pub returns-then-open_branches : goal.returns-then-open_branches
 unfolding opening rows_opened sets_opened
-returns-then-open_branches c = simp (le-leb _ _ c.if-open_branches.true) (refl, (refl, refl))
+returns-then-open_branches c = simp (le-leb _ _ c.if-open_branches.true) (record { value = refl; rows_after = refl; sets_after = refl })
 
 pub returns : goal.returns
 unfolding opening rows_opened sets_opened
 returns c =
     simp (lt-leb _ _ c.if-open_branches.false, c.store.ensures.rows_after, c.store.ensures.sets_after, c.opened.ensures)
-    (refl, (refl, refl))
+    (record { value = refl; rows_after = refl; sets_after = refl })

@@ -6,7 +6,7 @@ use Rattle.check_lines.proofs.read_line.Goals as goal
 pub returns : goal.returns
 returns c =
     simp (
-      c.Line_of.ensures,
+      c.line_of.ensures,
       c.word_code-code.ensures,
       c.part_before-word.ensures,
       c.rest_after-rest.ensures,

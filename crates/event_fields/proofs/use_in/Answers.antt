@@ -4,7 +4,7 @@ use Rattle.event_fields.proofs.use_in.Goals as goal
 
 pub returns-then-is_chunk : goal.returns-then-is_chunk
 unfolding use_in
-returns-then-is_chunk c = simp (← c.is_register.ensures, c.if-is_register.true, ← c.chunk_num.ensures, ← c.is_chunk.ensures, c.if-is_chunk.true, ← c.Code_in.ensures)
+returns-then-is_chunk c = simp (← c.is_register.ensures, c.if-is_register.true, ← c.chunk_num.ensures, ← c.is_chunk.ensures, c.if-is_chunk.true, ← c.code_in.ensures)
 
 pub returns-then-is_register : goal.returns-then-is_register
 unfolding use_in

@@ -4,7 +4,7 @@ use Rattle.mark_var.proofs.note_place.Goals as goal
 
 pub returns-then-is_new : goal.returns-then-is_new
 unfolding noted_slot
-returns-then-is_new c = simp (c.in-Perm.is, c.if-is_new.true, c.record_occurrence.ensures.value, c.record_occurrence.ensures.rows_after.0, c.record_occurrence.ensures.rows_after.1)
+returns-then-is_new c = simp (c.in-Perm.is, c.if-is_new.true, c.record_occurrence.ensures.value, c.record_occurrence.ensures.rows_after, c.record_occurrence.ensures.branch_sets_after)
 
 pub returns-in-Temp : goal.returns-in-Temp
 unfolding noted_slot

@@ -5,4 +5,4 @@ use Rattle.symbolic.proofs.add_variable.Goals as goal
 pub returns : goal.returns
 returns c =
     let named = c.step_name-name.ensures in
-    (simp (← named, c.put.ensures), (simp (← named, c.push-added.ensures), search rules))
+    (record { places_after = simp (← named, c.put.ensures); made_after = simp (← named, c.push-added.ensures); demands_value = search rules })

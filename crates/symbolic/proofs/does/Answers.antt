@@ -17,7 +17,7 @@ pub returns-in-PutUnsafeValue : goal.returns-in-PutUnsafeValue
 returns-in-PutUnsafeValue c = simp (c.in-PutUnsafeValue.is, c.copy-in-PutUnsafeValue.ensures.value, c.copy-in-PutUnsafeValue.ensures.places_after)
 
 pub returns-in-SetVariable : goal.returns-in-SetVariable
-returns-in-SetVariable c = simp (c.in-SetVariable.is, c.add_variable.ensures.places_after, c.add_variable.ensures.made_after.0, c.add_variable.ensures.made_after.1)
+returns-in-SetVariable c = simp (c.in-SetVariable.is, c.add_variable.ensures.places_after, c.add_variable.ensures.made_after, c.add_variable.ensures.demands_value)
 
 pub returns-in-SetValue : goal.returns-in-SetValue
 returns-in-SetValue c = simp (c.in-SetValue.is, c.set_value.ensures.made_after, c.set_value.ensures.demands_value)
@@ -26,7 +26,7 @@ pub returns-in-SetLocalValue : goal.returns-in-SetLocalValue
 returns-in-SetLocalValue c = simp (c.in-SetLocalValue.is, c.set_value-in-SetLocalValue.ensures.made_after, c.set_value-in-SetLocalValue.ensures.demands_value)
 
 pub returns-in-UnifyVariable : goal.returns-in-UnifyVariable
-returns-in-UnifyVariable c = simp (c.in-UnifyVariable.is, c.add_variable-in-UnifyVariable.ensures.places_after, c.add_variable-in-UnifyVariable.ensures.made_after.0, c.add_variable-in-UnifyVariable.ensures.made_after.1)
+returns-in-UnifyVariable c = simp (c.in-UnifyVariable.is, c.add_variable-in-UnifyVariable.ensures.places_after, c.add_variable-in-UnifyVariable.ensures.made_after, c.add_variable-in-UnifyVariable.ensures.demands_value)
 
 pub returns-in-UnifyValue : goal.returns-in-UnifyValue
 returns-in-UnifyValue c = simp (c.in-UnifyValue.is, c.unify_value.ensures.demands_after, c.unify_value.ensures.made_after)

@@ -3,4 +3,4 @@ use Rattle.verdict.proofs.is_demanded_wanted.Reads as reads
 use Rattle.verdict.proofs.is_demanded_wanted.Goals as goal
 
 pub returns : goal.returns
-returns c = simp (c.All_same.ensures, c.label.ensures)
+returns c = simp (c.all_same.ensures, c.label.ensures)

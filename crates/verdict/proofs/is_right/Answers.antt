@@ -6,14 +6,14 @@ pub returns-then-not-all_same : goal.returns-then-not-all_same
 returns-then-not-all_same c =
     wants_unforced
     _ _ _ _ _ c.counted-demanded.ensures c.counted-wanted.ensures c.label.ensures
-    c.All_same.ensures
+    c.all_same.ensures
     (c.if-not-all_same.true)
 
 pub returns-then-not-all_same-2 : goal.returns-then-not-all_same-2
 returns-then-not-all_same-2 c =
     claims_unforced
     _ _ _ _ _ c.counted-demanded.ensures c.counted-wanted.ensures c.label.ensures
-    c.All_same.ensures
+    c.all_same.ensures
     (c.if-not-all_same.false)
     c.counted.ensures
     c.all_same-2.ensures
@@ -23,7 +23,7 @@ pub returns-then-not-same_subterms : goal.returns-then-not-same_subterms
 returns-then-not-same_subterms c =
     subterms_unforced
     _ _ _ _ _ c.counted-demanded.ensures c.counted-wanted.ensures c.label.ensures
-    c.All_same.ensures
+    c.all_same.ensures
     (c.if-not-all_same.false)
     c.counted.ensures
     c.all_same-2.ensures
@@ -37,7 +37,7 @@ pub returns : goal.returns
 returns c =
     all_forced
     _ _ _ _ _ c.counted-demanded.ensures c.counted-wanted.ensures c.label.ensures
-    c.All_same.ensures
+    c.all_same.ensures
     (c.if-not-all_same.false)
     c.counted.ensures
     c.all_same-2.ensures
