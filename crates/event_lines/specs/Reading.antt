@@ -115,15 +115,15 @@ with_three no_three = Malformed
 -- ---- Terms
 
 abbrev pub var_line : Target → Level → GenContext → Number → Line
-var_line target level context (Of v) = Says (Var target level context v) 0
-var_line target level context no_number = Malformed
+var_line target' level' context' (Of v) = Says (Var target' level' context' v) 0
+var_line target' level' context' no_number = Malformed
 
 abbrev pub anon_line : Target → Level → GenContext → List (List ℕ) → Line
 anon_line target level context fields = end_says (Anon target level context) fields
 
 abbrev pub non_var_line : Level → GenContext → Number → Line
-non_var_line level context (Of cell) = Says (NonVar level context cell) 0
-non_var_line level context no_number = Malformed
+non_var_line level' context' (Of cell) = Says (NonVar level' context' cell) 0
+non_var_line level' context' no_number = Malformed
 
 unfoldable pub mark_of : ℕ → Target → Level → GenContext → List (List ℕ) → Line
 mark_of code target level context fields =
@@ -132,10 +132,10 @@ mark_of code target level context fields =
     else if eqb code 19 then non_var_line level context (one_number fields) else Malformed
 
 abbrev pub marked : ℕ → ContextField → LevelField → TargetField → List (List ℕ) → Line
-marked code (of_context context) (of_level level) (of_target target) fields = mark_of code target level context fields
-marked code (of_context context) (of_level level) no_target fields = Malformed
-marked code (of_context context) no_level target fields = Malformed
-marked code no_context level target fields = Malformed
+marked code (of_context context') (of_level level') (of_target target') fields = mark_of code target' level' context' fields
+marked code (of_context context') (of_level level') no_target fields = Malformed
+marked code (of_context context') no_level target' fields = Malformed
+marked code no_context level' target' fields = Malformed
 
 -- what stands behind target, level and context
 abbrev pub behind_place : ℕ → Form (Target × Level × GenContext)
@@ -156,10 +156,10 @@ uses_count (field ∷ []) = counted Uses (uses_in field)
 uses_count (field ∷ (next ∷ fields)) = no_count
 
 abbrev pub recorded : Number → ContextField → Counted → Line
-recorded (Of occurrences) (of_context context) (of_count n) = Says (Temp context occurrences) n
-recorded (Of occurrences) (of_context context) no_count = Malformed
+recorded (Of occurrences) (of_context context') (of_count n) = Says (Temp context' occurrences) n
+recorded (Of occurrences) (of_context context') no_count = Malformed
 recorded (Of occurrences) no_context uses = Malformed
-recorded no_number context uses = Malformed
+recorded no_number context' uses = Malformed
 
 abbrev pub temp_line : List (List ℕ) → Line
 temp_line fields = (context (number uses_field)).says Temp fields

@@ -36,7 +36,7 @@ pub returns-in-20-to-22 : goal.returns-in-20-to-22
 returns-in-20-to-22 c =
     let a = c.args in
     let said = c.list_line.ensures in
-    (record { value = said.0 ∙ sym (said_list a.code (fields_left tab a.rest.now) (omega arith)); list_after = said.1 })
+    (record { value = said.value ∙ sym (said_list a.code (fields_left tab a.rest.now) (omega arith)); list_after = said.list_after })
 
 pub returns-in_default : goal.returns-in_default
 returns-in_default c =

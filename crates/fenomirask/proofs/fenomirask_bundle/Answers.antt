@@ -14,4 +14,4 @@ number_of-requires c =
 pub returns : goal.returns
 returns c =
     let answered = c.answer-answered.ensures in
-    (record { value = read_back c.number_of.type_inv (c.number_of.ensures ∙ ap number_of answered.0); out_after = answered.1 })
+    (record { value = read_back c.number_of.type_inv (c.number_of.ensures ∙ ap number_of answered.value); out_after = answered.out_after })

@@ -14,4 +14,4 @@ number_of-requires c =
 pub returns : goal.returns
 returns c =
     let answered = c.put_last-answered.ensures in
-    (read_back c.number_of.type_inv (c.number_of.ensures ∙ ap number_of answered.0), answered.1)
+    (read_back c.number_of.type_inv (c.number_of.ensures ∙ ap number_of answered.value), answered.out_after)

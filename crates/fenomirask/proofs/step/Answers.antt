@@ -16,7 +16,7 @@ number_of-number-requires c =
 pub returns : goal.returns
 returns c =
     let call = c.call-called.ensures in (
-      read_back c.number_of-number.type_inv (c.number_of-number.ensures ∙ ap (λ (k : Called). number_of k.answered) call.0),
-      ap (λ (k : Called). k.state) call.0,
-      call.1,
+      read_back c.number_of-number.type_inv (c.number_of-number.ensures ∙ ap (λ (k : Called). number_of k.answered) call.value),
+      ap (λ (k : Called). k.state) call.value,
+      call.out_after,
     )

@@ -2,7 +2,7 @@
 use Rattle.mark_var.proofs.record_occurrence.Goals as goal
 
 pub returns-in-Well : goal.returns-in-Well
-returns-in-Well c = let e = c.add_branch_occurrence-recorded.ensures in (record { value = simp (← e.0, c.in-Well.is); rows_after = e.1.0; branch_sets_after = e.1.1 })
+returns-in-Well c = let e = c.add_branch_occurrence-recorded.ensures in (record { value = simp (← e.value, c.in-Well.is); rows_after = e.rows_after; branch_sets_after = e.sets_after })
 
 pub returns-in-PastArms : goal.returns-in-PastArms
-returns-in-PastArms c = let e = c.add_branch_occurrence-recorded.ensures in (record { value = simp (← e.0, c.in-PastArms.is); rows_after = e.1.0; branch_sets_after = e.1.1 })
+returns-in-PastArms c = let e = c.add_branch_occurrence-recorded.ensures in (record { value = simp (← e.value, c.in-PastArms.is); rows_after = e.rows_after; branch_sets_after = e.sets_after })
