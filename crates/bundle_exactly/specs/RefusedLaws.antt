@@ -2,7 +2,7 @@
 use Rattle.std.specs.Prelude.{ℕ, ◌≤◌, ◌<◌, ◌≡◌, refl, true, false, ◌↔◌, List, ◌++◌, ltb, length, drop}
 use Rattle.std.proofs.Math.Path.{ap}
 use Rattle.std.proofs.Common.{ap₂, subst, sym, ◌∙◌, inl, inr, ⊎_elim, arith}
-use Rattle.std.proofs.Math.Logic.{Iff·trans}
+use Rattle.std.proofs.Math.Logic.{Iff.trans}
 use borrow.Author.Tests.{ltb-true, ltb-false, lt-ltb, le-ltb}
 use Rattle.notation.specs.ChoiceLaws.{by_test}
 use Rattle.refusals.specs.Refusals.{refused_form, refused_order, refused_full, refused_room}
@@ -171,21 +171,21 @@ module _ {bundle : List ℕ} {room : ℕ} where
 module _ (bundle : List ℕ) (room : ℕ) where
   -- 7: it is longer than 65,536 bytes
   pub length_exactly : (answered bundle room ≡ Refused 0 refused_full) ↔ TooLong bundle
-  length_exactly = Iff·trans (answered_exactly bundle room _) (full_due, full)
+  length_exactly = Iff.trans (answered_exactly bundle room _) (full_due, full)
 
   -- 1: its last byte is no LF, or none is stray and a `clause` line has more fields
   pub form_exactly : (answered bundle room ≡ Refused 0 refused_form) ↔ ((length bundle ≤ sheet_bytes) × OfBadForm bundle)
-  form_exactly = Iff·trans (answered_exactly bundle room _) (form_due, λ told. due_form told.0 told.1)
+  form_exactly = Iff.trans (answered_exactly bundle room _) (form_due, λ told. due_form told.0 told.1)
 
   -- 2: a line stands before the first `clause`
   pub order_exactly :
       (answered bundle room ≡ Refused 0 refused_order)
       ↔ ((length bundle ≤ sheet_bytes) × (¬ Unended bundle) × Stray (lines_of bundle))
-  order_exactly = Iff·trans (answered_exactly bundle room _) (order_due, λ told. stray told.0 told.1 told.2)
+  order_exactly = Iff.trans (answered_exactly bundle room _) (order_due, λ told. stray told.0 told.1 told.2)
 
   -- 9: nothing of all that, and the text is longer than the room
   pub room_exactly : (answered bundle room ≡ Refused 0 refused_room) ↔ (IsBundle bundle × (room < length (bundle_text bundle)))
-  room_exactly = Iff·trans (answered_exactly bundle room _) (room_due, λ told. roomless told.0 told.1)
+  room_exactly = Iff.trans (answered_exactly bundle room _) (room_due, λ told. roomless told.0 told.1)
 
   -- and else it is written
   pub written_exactly :
@@ -193,7 +193,7 @@ module _ (bundle : List ℕ) (room : ℕ) where
       → (answered bundle room ≡ Written count)
       ↔ (IsBundle bundle × (length (bundle_text bundle) ≤ room) × (count ≡ length (bundle_text bundle)))
   written_exactly =
-      Iff·trans (answered_exactly bundle room _)
+      Iff.trans (answered_exactly bundle room _)
       (written_due, λ told. subst (λ count. Due bundle room (Written count)) (sym told.2) (written told.0 told.1))
 
   -- no other refusal is given, and none but at line 0

@@ -2,7 +2,7 @@
 use Rattle.std.specs.Prelude.{ℕ, ◌≤◌, ◌≡◌, refl, Bool, true, false, ◌↔◌, List, ◌++◌, length, get_or}
 use Rattle.std.proofs.Common.{ap, sym, subst, ◌∙◌, true≢false, arith, le-ltb}
 use Rattle.std.proofs.lemmas.Bool.{false≢true}
-use Rattle.std.proofs.Math.Logic.{Iff·trans, Iff·not}
+use Rattle.std.proofs.Math.Logic.{Iff.trans, Iff.not}
 use Rattle.sizes.specs.Sizes.{sheet_bytes}
 use Rattle.answered.specs.declared.Answered.{Answered}
 use Rattle.answered.specs.declared.Answered.TheVariants.{Written}
@@ -68,6 +68,6 @@ judges_exactly sheet out {after = after} {lines = lines} verdict short all room 
     let shows = verdict.holds.1 ∙ filled-shows verdict.right sheet out short read room in
     let tells = subst (Tells verdict.right) read verdict.tells in
     record {
-      accepted = Iff·trans (shown_exactly out verdict.right true shows) tells;
-      rejected = Iff·trans (shown_exactly out verdict.right false shows) (Iff·trans (not-true verdict.right) (Iff·not tells));
+      accepted = Iff.trans (shown_exactly out verdict.right true shows) tells;
+      rejected = Iff.trans (shown_exactly out verdict.right false shows) (Iff.trans (not-true verdict.right) (Iff.not tells));
     }

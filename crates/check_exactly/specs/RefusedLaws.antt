@@ -2,7 +2,7 @@
 use Rattle.std.specs.Prelude.{ℕ, ◌≤◌, ◌<◌, ◌≡◌, Bool, ◌↔◌, ◌≢◌, ◌⊎◌, List, [], ◌∷◌, ltb}
 use Rattle.std.proofs.Math.Path.{refl, ap}
 use Rattle.std.proofs.Common.{sym, ◌∙◌, inl, ⊎_elim}
-use Rattle.std.proofs.Math.Logic.{Iff·rfl, Iff·trans, Iff·and, inr}
+use Rattle.std.proofs.Math.Logic.{Iff.rfl, Iff.trans, Iff.and, inr}
 use native.Mathlib.Omega.{arith}
 use Rattle.std.proofs.Math.ListN.{length}
 use borrow.Author.Tests.{ltb-true, ltb-false, lt-ltb, le-ltb}
@@ -99,8 +99,8 @@ module _ (right : Bool) (sheet : List ℕ) (room : ℕ) {number : ℕ} (some : 1
   pub refused_exactly :
       {refusal : ℕ} → (answered right sheet room ≡ Refused number refusal) ↔ ((length sheet ≤ sheet_bytes) × FirstBad sheet number refusal)
   refused_exactly {refusal} =
-      Iff·trans (by-reading right sheet room (λ e. omega (arith, some, ap line_in e)))
-      (Iff·and Iff·rfl (Iff·trans (bad_answered right room some (reading sheet)) (bad_exactly sheet number refusal)))
+      Iff.trans (by-reading right sheet room (λ e. omega (arith, some, ap line_in e)))
+      (Iff.and Iff.rfl (Iff.trans (bad_answered right room some (reading sheet)) (bad_exactly sheet number refusal)))
 
   -- and what each number is given for
   given_exactly :
@@ -108,8 +108,8 @@ module _ (right : Bool) (sheet : List ℕ) (room : ℕ) {number : ℕ} (some : 1
       → Ways refusal (LineAt sheet number Holds) (UnendedAt sheet number) (UncalledAt sheet number) ↔ Bad
       → (answered right sheet room ≡ Refused number refusal) ↔ ((length sheet ≤ sheet_bytes) × Bad)
   given_exactly by told =
-      Iff·trans refused_exactly
-      (Iff·and Iff·rfl (Iff·trans (
+      Iff.trans refused_exactly
+      (Iff.and Iff.rfl (Iff.trans (
         ⊎_elim (λ at. inl (line_at_so (λ earlier said. (by earlier said).0) at)) inr,
         ⊎_elim (λ at. inl (line_at_so (λ earlier said. (by earlier said).1) at)) inr,
       ) told))
@@ -180,8 +180,8 @@ module _ (right : Bool) (sheet : List ℕ) (room : ℕ) where
       (answered right sheet room ≡ Refused 0 refused_room)
       ↔ ((length sheet ≤ sheet_bytes) × (IsRead sheet × (room < length (word_of right))))
   room_exactly =
-      Iff·trans (by-reading right sheet room (λ e. omega (arith, ap refusal_in e)))
-      (Iff·and Iff·rfl (λ e. (whole-only (omega arith) (reading sheet) refl e).1, roomless_given))
+      Iff.trans (by-reading right sheet room (λ e. omega (arith, ap refusal_in e)))
+      (Iff.and Iff.rfl (λ e. (whole-only (omega arith) (reading sheet) refl e).1, roomless_given))
 
 -- ---- No other refusal is given
 

@@ -5,7 +5,7 @@ use Rattle.std.proofs.Math.Path.{refl, sym, ap}
 use Rattle.std.proofs.Common.{ap₂, ◌∙◌, inl, inr, eq-or-lt_of_le, add-one, leb-true, ltb-true, lt-ltb, eqb-true, eq-eqb}
 use Rattle.std.proofs.lemmas.Bool.{false≢true, not-true, not-false}
 use Rattle.std.proofs.Math.Bool.{and-false}
-use Rattle.std.proofs.Math.Logic.{Iff·rfl, ⊎_elim}
+use Rattle.std.proofs.Math.Logic.{Iff.rfl, ⊎_elim}
 use native.Mathlib.Omega.{arith}
 use Rattle.notation.specs.ChoiceLaws.{both_true}
 use Rattle.sizes.specs.Sizes.{variables, registers, freed_registers}
@@ -166,7 +166,7 @@ module _ (s : State) where
   unfolding is_valid
   valid_exactly =
       let fits =
-      both_exactly (counters_fit s.counters) _ Iff·rfl
+      both_exactly (counters_fit s.counters) _ Iff.rfl
       (both_exactly _ _ (below_exactly (variable_fits s) s.counters.records)
       (both_exactly _ _ (below_exactly (mapping_fits s) (registers + 1))
       (both_exactly _ _ (below_exactly (freed_register_fits s) s.counters.freed_registers)

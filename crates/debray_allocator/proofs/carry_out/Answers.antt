@@ -45,7 +45,7 @@ returns-in-Args c =
     carried only_counters _ _ _ _ _ _ _ _ _ _ _ _
     c.in-Args.is
     c.plain-in-Args.ensures
-    c.reset-arg-1.ensures
+    c.reset_arg.ensures
     refl
     refl
 
