@@ -2,7 +2,7 @@
 use Rattle.std.specs.Prelude.{ℕ, ◌≤◌, ◌<◌, ◌≡◌, refl, true, false, ◌↔◌, List, ◌++◌, ltb, length, drop}
 use Rattle.std.proofs.Math.Path.{ap}
 use Rattle.std.proofs.Common.{ap₂, subst, sym, ◌∙◌, inl, inr, ⊎_elim, arith}
-use Rattle.std.proofs.Math.Logic.{Iff.trans}
+use mathlib.Core.Logic.Iff
 use borrow.Author.Tests.{ltb-true, ltb-false, lt-ltb, le-ltb}
 use Rattle.notation.specs.ChoiceLaws.{by_test}
 use Rattle.refusals.specs.Refusals.{refused_form, refused_order, refused_full, refused_room}

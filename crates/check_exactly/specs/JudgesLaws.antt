@@ -2,7 +2,7 @@
 use Rattle.std.specs.Prelude.{ℕ, ◌≤◌, ◌≡◌, refl, Bool, true, false, ◌↔◌, List, ◌++◌, length, get_or}
 use Rattle.std.proofs.Common.{ap, sym, subst, ◌∙◌, true≢false, arith, le-ltb}
 use Rattle.std.proofs.lemmas.Bool.{false≢true}
-use Rattle.std.proofs.Math.Logic.{Iff.trans, Iff.not}
+use mathlib.Core.Logic.Iff
 use Rattle.sizes.specs.Sizes.{sheet_bytes}
 use Rattle.answered.specs.declared.Answered.{Answered}
 use Rattle.answered.specs.declared.Answered.TheVariants.{Written}

@@ -2,7 +2,8 @@
 use Rattle.std.specs.Prelude.{ℕ, ◌≤◌, ◌<◌, ◌≡◌, Bool, ◌↔◌, ◌≢◌, ◌⊎◌, List, [], ◌∷◌, ltb}
 use Rattle.std.proofs.Math.Path.{refl, ap}
 use Rattle.std.proofs.Common.{sym, ◌∙◌, inl, ⊎_elim}
-use Rattle.std.proofs.Math.Logic.{Iff.rfl, Iff.trans, Iff.and, inr}
+use mathlib.Core.Logic.Iff
+use Rattle.std.proofs.Math.Logic.{inr}
 use native.Mathlib.Omega.{arith}
 use Rattle.std.proofs.Math.ListN.{length}
 use borrow.Author.Tests.{ltb-true, ltb-false, lt-ltb, le-ltb}

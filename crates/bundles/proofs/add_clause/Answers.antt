@@ -3,11 +3,20 @@ use borrow.Author.Rules.{rules}
 use Rattle.bundles.specs.RunningLaws.{line_small, clause_refused, clause_printed}
 use Rattle.bundles.proofs.add_clause.Goals as goal
 
+-- a pair as the two clauses
+both : {A B : Type 0} → A × B → record { value : A; fronts : B }
+both w = record { value = w.0; fronts = w.1 }
+
 pub overflow_cast-run : goal.overflow_cast-run
 overflow_cast-run c = search (rules, line_small _ c.requires c.run_sheet-run.ensures.value)
 
 pub returns-then-run-gt0 : goal.returns-then-run-gt0
-returns-then-run-gt0 c = clause_refused _ c.requires c.run_sheet-run.ensures.value _ _ c.if-run-gt0.true c.run_sheet-run.ensures.out_after c.add_refusal.ensures.value c.add_refusal.ensures.out_after
+returns-then-run-gt0 c = both (
+    clause_refused _ c.requires c.run_sheet-run.ensures.value _ _ c.if-run-gt0.true c.run_sheet-run.ensures.out_after c.add_refusal.ensures.value c.add_refusal.ensures.out_after
+)
 
 pub returns : goal.returns
-returns c = clause_printed _ c.requires c.run_sheet-run.ensures.value _ _ c.if-run-gt0.false c.run_sheet-run.ensures.out_after
+returns c = both (
+    clause_printed _ c.requires c.run_sheet-run.ensures.value _ _ c.if-run-gt0.false c.run_sheet-run.ensures.out_after
+)
+

@@ -7,25 +7,39 @@ use Rattle.bundles.specs.BundlesLaws.{answer-before, answer-refused, answer_long
 use Rattle.bundles.specs.RunningLaws.{bundle-begins}
 use Rattle.bundles.proofs.answer.Goals as goal
 
+-- a pair as the two clauses
+both : {A B : Type 0} → A × B → record { value : A; out_after : B }
+both w = record { value = w.0; out_after = w.1 }
+
 pub returns-then-refusal-gt0 : goal.returns-then-refusal-gt0
-returns-then-refusal-gt0 c = answer-before _ _ c.refusal_before-refusal.ensures c.if-refusal-gt0.true
+returns-then-refusal-gt0 c = both (
+    answer-before _ _ c.refusal_before-refusal.ensures c.if-refusal-gt0.true
+)
 
 pub run_clauses-run-requires : goal.run_clauses-run-requires
 run_clauses-run-requires c = let b = bundle-begins c.args.bundle.now (search (rules, c.refusal_before-refusal.ensures, c.if-refusal-gt0.false)) in (b.short, (b.ended, b.begun))
 
 pub returns-then-run-gt0 : goal.returns-then-run-gt0
-returns-then-run-gt0 c = answer-refused _ _ (bundle-begins c.args.bundle.now (search (rules, c.refusal_before-refusal.ensures, c.if-refusal-gt0.false))) c.run_clauses-run.ensures.value c.if-run-gt0.true
+returns-then-run-gt0 c = both (
+    answer-refused _ _ (bundle-begins c.args.bundle.now (search (rules, c.refusal_before-refusal.ensures, c.if-refusal-gt0.false))) c.run_clauses-run.ensures.value c.if-run-gt0.true
+)
 
 pub returns-then-out-length : goal.returns-then-out-length
-returns-then-out-length c = answer_longer _ _ (bundle-begins c.args.bundle.now (search (rules, c.refusal_before-refusal.ensures, c.if-refusal-gt0.false))) c.run_clauses-run.ensures.value c.if-run-gt0.false c.if-out-length.true
+returns-then-out-length c = both (
+    answer_longer _ _ (bundle-begins c.args.bundle.now (search (rules, c.refusal_before-refusal.ensures, c.if-refusal-gt0.false))) c.run_clauses-run.ensures.value c.if-run-gt0.false c.if-out-length.true
+)
 
 pub returns-then-length-le-SHEET_BYTES : goal.returns-then-length-le-SHEET_BYTES
-returns-then-length-le-SHEET_BYTES c = answer_copied _ _ (bundle-begins c.args.bundle.now (search (rules, c.refusal_before-refusal.ensures, c.if-refusal-gt0.false))) c.run_clauses-run.ensures.value c.if-run-gt0.false c.if-out-length.false _ (search (rules, c.if-length-le-SHEET_BYTES.true)) c.run_clauses-run.ensures.fronts c.part_before.ensures c.put_word.ensures.bytes
+returns-then-length-le-SHEET_BYTES c = both (
+    answer_copied _ _ (bundle-begins c.args.bundle.now (search (rules, c.refusal_before-refusal.ensures, c.if-refusal-gt0.false))) c.run_clauses-run.ensures.value c.if-run-gt0.false c.if-out-length.false _ (search (rules, c.if-length-le-SHEET_BYTES.true)) c.run_clauses-run.ensures.fronts c.part_before.ensures c.put_word.ensures.bytes
+)
 
 pub run_clauses-requires : goal.run_clauses-requires
 run_clauses-requires c = let b = bundle-begins c.args.bundle.now (search (rules, c.refusal_before-refusal.ensures, c.if-refusal-gt0.false)) in (b.short, (b.ended, b.begun))
 
 pub returns : goal.returns
-returns c =
+returns c = both (
     let sized : c.run_clauses-run.result.length - 0 ≡ c.run_clauses-run.result.length = omega arith in
     answer-again _ _ (bundle-begins c.args.bundle.now (search (rules, c.refusal_before-refusal.ensures, c.if-refusal-gt0.false))) c.run_clauses-run.ensures.value c.if-run-gt0.false c.if-out-length.false sized c.run_clauses.ensures.value c.run_clauses.ensures.fronts refl
+)
+

@@ -5,14 +5,20 @@ use native.Mathlib.Omega.{arith}
 use Rattle.bundles.specs.RunningLaws.{going-first, going-refused, lines_short, count_short, next_shorter, going_on_lem, going-last}
 use Rattle.bundles.proofs.run_clauses.Goals as goal
 
+-- a pair as the two clauses
+both : {A B : Type 0} → A × B → record { value : A; fronts : B }
+both w = record { value = w.0; fronts = w.1 }
+
 pub loop-rest-init : goal.loop-rest-init
-loop-rest-init c = going-first _ _ c.requires.0 c.requires.1.0 c.requires.1.1
+loop-rest-init c = going-first _ _ c.requires.bundle_len_bound c.requires.bundle_value.0 c.requires.bundle_value.1
 
 pub shape_of-out-then-not-is : goal.shape_of-out-then-not-is
 shape_of-out-then-not-is c = c.loop-rest.invariant.room
 
 pub returns-then-not-is : goal.returns-then-not-is
-returns-then-not-is c = going-refused c.loop-rest.invariant c.loop-rest-test.true c.end_of-end.ensures c.part_before.ensures (sym c.is.ensures ∙ c.if-not-is.true)
+returns-then-not-is c = both (
+    going-refused c.loop-rest.invariant c.loop-rest-test.true c.end_of-end.ensures c.part_before.ensures (sym c.is.ensures ∙ c.if-not-is.true)
+)
 
 pub add_clause-length-requires : goal.add_clause-length-requires
 add_clause-length-requires c = omega (arith, lines_short c.loop-rest.invariant c.loop-rest-test.true c.end_of-end.ensures c.part_before.ensures (sym c.is.ensures ∙ c.if-not-is.false) c.part_after-behind.ensures c.end_of_clause-end_of_lines.ensures c.part_before-in-loop-rest.ensures refl, c.loop-rest.invariant.short)
@@ -30,4 +36,7 @@ pub shape_of-out : goal.shape_of-out
 shape_of-out c = c.loop-rest.invariant.room
 
 pub returns : goal.returns
-returns c = going-last c.loop-rest.invariant c.loop-rest-test.false
+returns c = both (
+    going-last c.loop-rest.invariant c.loop-rest-test.false
+)
+

@@ -4,11 +4,17 @@ use mathlib.Core.Path.{sym, ◌∙◌}
 use Rattle.event_calls.specs.CallLaws.{last_invalid, last_longer, last_written}
 use Rattle.event_calls.proofs.put_last.Goals as goal
 
+-- a pair as the two clauses
+both : {A B : Type 0} → A × B → record { value : A; out_after : B }
+both w = record { value = w.0; out_after = w.1 }
+
 pub returns-then-not-is_valid_state : goal.returns-then-not-is_valid_state
-returns-then-not-is_valid_state c = last_invalid _ _ (sym c.is_valid_state.ensures ∙ c.if-not-is_valid_state.true)
+returns-then-not-is_valid_state c = both (
+    last_invalid _ _ (sym c.is_valid_state.ensures ∙ c.if-not-is_valid_state.true)
+)
 
 pub returns-then-out-count : goal.returns-then-out-count
-returns-then-out-count c =
+returns-then-out-count c = both (
     last_longer _ _
     (sym c.is_valid_state.ensures ∙ c.if-not-is_valid_state.false)
     c.max_reg_allocated-registers.ensures
@@ -16,9 +22,10 @@ returns-then-out-count c =
     (search rules)
     c.put_end-count.ensures
     c.if-out-count.true
+)
 
 pub returns : goal.returns
-returns c =
+returns c = both (
     last_written _ _
     (sym c.is_valid_state.ensures ∙ c.if-not-is_valid_state.false)
     c.max_reg_allocated-registers.ensures
@@ -28,3 +35,5 @@ returns c =
     c.if-out-count.false
     c.part_before.ensures
     c.put_word.ensures
+)
+

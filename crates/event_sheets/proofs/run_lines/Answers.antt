@@ -12,8 +12,12 @@ use Rattle.answers.specs.AnswersLaws.{answer_short}
 use Rattle.event_sheets.specs.RunningLaws.{going-first, going-last, going-refused, going_on_lem}
 use Rattle.event_sheets.proofs.run_lines.Goals as goal
 
+-- a pair as the two clauses
+both : {A B : Type 0} → A × B → record { value : A; out_after : B }
+both w = record { value = w.0; out_after = w.1 }
+
 pub loop-end-init : goal.loop-end-init
-loop-end-init c = (going-first _ _ _ c.fresh-fresh.ensures c.end_of-end.ensures, c.requires.1, refl)
+loop-end-init c = (going-first _ _ _ c.fresh-fresh.ensures c.end_of-end.ensures, c.requires.sheet_in_bounds, refl)
 
 pub carry_line-acted-requires : goal.carry_line-acted-requires
 carry_line-acted-requires c =
@@ -28,16 +32,18 @@ pub shape_of-out-then-acted-gt0 : goal.shape_of-out-then-acted-gt0
 shape_of-out-then-acted-gt0 c = c.loop-end.invariant.0.room
 
 pub returns-then-acted-gt0 : goal.returns-then-acted-gt0
-returns-then-acted-gt0 c = going-refused c.loop-end.invariant.0 c.loop-end-test.true c.part_before.ensures c.carry_line-acted.ensures c.if-acted-gt0.true
+returns-then-acted-gt0 c = both (
+    going-refused c.loop-end.invariant.0 c.loop-end-test.true c.part_before.ensures c.carry_line-acted.ensures c.if-acted-gt0.true
+)
 
 pub overflow_add-length : goal.overflow_add-length
 overflow_add-length c =
     let r = c.carry_line-acted.result in
     let g = c.loop-end.invariant.0 in
-    omega (arith, c.add_answer-adding.ensures.counted, answer_short r.code r.at, g.short, g.lines, c.requires.0)
+    omega (arith, c.add_answer-adding.ensures.counted, answer_short r.code r.at, g.short, g.lines, c.requires.sheet_len_bound)
 
 pub overflow_add-number : goal.overflow_add-number
-overflow_add-number c = omega (arith, c.loop-end.invariant.0.lines, c.requires.0)
+overflow_add-number c = omega (arith, c.loop-end.invariant.0.lines, c.requires.sheet_len_bound)
 
 pub loop-end-smaller : goal.loop-end-smaller
 loop-end-smaller c =
@@ -53,7 +59,7 @@ loop-end-preserved c =
     )
 
 pub finish-requires : goal.finish-requires
-finish-requires c = omega (arith, c.loop-end.invariant.0.short, c.loop-end.invariant.0.lines, c.requires.0)
+finish-requires c = omega (arith, c.loop-end.invariant.0.short, c.loop-end.invariant.0.lines, c.requires.sheet_len_bound)
 
 pub shape_of-list : goal.shape_of-list
 shape_of-list c = c.loop-end.invariant.2
@@ -62,4 +68,7 @@ pub shape_of-out : goal.shape_of-out
 shape_of-out c = ap length c.finish.ensures.out_after ∙ printed-length _ _ _ ∙ c.loop-end.invariant.0.room
 
 pub returns : goal.returns
-returns c = going-last c.loop-end.invariant.0 c.loop-end-test.false c.finish.ensures.value c.finish.ensures.out_after
+returns c = both (
+    going-last c.loop-end.invariant.0 c.loop-end-test.false c.finish.ensures.value c.finish.ensures.out_after
+)
+
