@@ -1,4 +1,6 @@
 -- `valid_states::is_valid`: each way of the code is a case of the definition. Assumes nothing.
+use Rattle.std.proofs.Common.{ap}
+use Rattle.std.specs.Prelude.{not}
 use Rattle.valid_states.specs.ValidStates.{is_valid}
 use Rattle.valid_states.specs.ValidStatesLaws.{passed, stopped, held, missed, records_fit, freed_registers_fit_lem}
 use Rattle.valid_states.proofs.is_valid.Goals as goal
