@@ -83,9 +83,9 @@ fn add_clause(sheet: &[u8], out: &mut [u8], at: usize) -> usize
 // The clauses of a bundle that begins with one, each with a fresh state and its own line numbers. Their texts are put one
 // behind another as far as there is room; what lies past them there is not looked at.
 fn run_clauses(bundle: &[u8], out: &mut [u8]) -> Run
-    requires bundle_len_bound { length bundle.now ≤ sheet_bytes }
-    requires bundle_value { is_unended bundle.now ≡ false }
-    requires bundle_value_2 { is_stray (lines_of bundle.now) ≡ false }
+    requires fits_a_sheet { length bundle.now ≤ sheet_bytes }
+    requires ends_a_line { is_unended bundle.now ≡ false }
+    requires begins_a_clause { is_stray (lines_of bundle.now) ≡ false }
     ensures value { result ≡ told (clauses_ran (lines_of bundle.now)) }
     ensures fronts { result.refusal ≤ 0 → Fronts out.old 0 (clauses_ran (lines_of bundle.now)).text out.new }
 {

@@ -17,7 +17,7 @@ returns-then-refusal-gt0 c = both (
 )
 
 pub run_clauses-run-requires : goal.run_clauses-run-requires
-run_clauses-run-requires c = let b = bundle-begins c.args.bundle.now (search (rules, c.refusal_before-refusal.ensures, c.if-refusal-gt0.false)) in (b.short, (b.ended, b.begun))
+run_clauses-run-requires c = let b = bundle-begins c.args.bundle.now (search (rules, c.refusal_before-refusal.ensures, c.if-refusal-gt0.false)) in record { fits_a_sheet = b.short; ends_a_line = b.ended; begins_a_clause = b.begun }
 
 pub returns-then-run-gt0 : goal.returns-then-run-gt0
 returns-then-run-gt0 c = both (
@@ -35,7 +35,7 @@ returns-then-length-le-SHEET_BYTES c = both (
 )
 
 pub run_clauses-requires : goal.run_clauses-requires
-run_clauses-requires c = let b = bundle-begins c.args.bundle.now (search (rules, c.refusal_before-refusal.ensures, c.if-refusal-gt0.false)) in (b.short, (b.ended, b.begun))
+run_clauses-requires c = let b = bundle-begins c.args.bundle.now (search (rules, c.refusal_before-refusal.ensures, c.if-refusal-gt0.false)) in record { fits_a_sheet = b.short; ends_a_line = b.ended; begins_a_clause = b.begun }
 
 pub returns : goal.returns
 returns c = both (

@@ -10,7 +10,7 @@ both : {A B : Type 0} → A × B → record { value : A; fronts : B }
 both w = record { value = w.0; fronts = w.1 }
 
 pub loop-rest-init : goal.loop-rest-init
-loop-rest-init c = going-first _ _ c.requires.bundle_len_bound c.requires.bundle_value.0 c.requires.bundle_value.1
+loop-rest-init c = going-first _ _ c.requires.fits_a_sheet c.requires.ends_a_line c.requires.begins_a_clause
 
 pub shape_of-out-then-not-is : goal.shape_of-out-then-not-is
 shape_of-out-then-not-is c = c.loop-rest.invariant.room

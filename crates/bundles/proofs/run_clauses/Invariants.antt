@@ -6,7 +6,7 @@ use Rattle.bundles.specs.Running.{Going}
 use Rattle.bundles.proofs.run_clauses.Given as goal
 
 abbrev pub invariant-loop-rest : goal.invariant-loop-rest
-invariant-loop-rest l = Going (lines_of l.bundle) l.initial.out l.rest l.count l.out
+invariant-loop-rest l = Going (lines_of l.bundle) l.initial.out l.rest l.length l.out
 
 abbrev pub decreases-loop-rest : goal.decreases-loop-rest
 decreases-loop-rest l = length l.rest

@@ -25,6 +25,6 @@ shape_of-list-in-Says c = ap length c.read_line-said.ensures.list_after ∙ prin
 
 pub returns-in-Says : goal.returns-in-Says
 returns-in-Says c =
-    let said = c.said-1.given in
-    let all : said.0.1.0 - 0 ≡ said.0.1.0 = omega arith in
-    line_said _ c.read_line-said.ensures.value _ said.1 c.requires c.read_line-said.ensures.list_after _ (ap (λ (k : ℕ). take k c.read_line-said.new.1.0) all) c.step.ensures
+    let count = c.in-Says.count in
+    let all : count - 0 ≡ count = omega arith in
+    line_said _ c.read_line-said.ensures.value _ c.in-Says.is c.requires c.read_line-said.ensures.list_after _ (ap (λ (k : ℕ). take k c.read_line-said.new.list) all) c.step.ensures
