@@ -1,5 +1,5 @@
 -- A read's answer in the machine's bits: they are 0 at the end of the input alone.
-use Rattle.std.specs.Prelude.{ℕ, zero, suc, ◌^◌, ◌≡◌, refl, eqb, ℤ, pos, negsuc}
+use Rattle.std.specs.Prelude.{zero, suc, ◌≡◌, refl, eqb, ℤ, pos, negsuc}
 use Rattle.std.proofs.Common.{arith, of_z, SFits, ne_eqb}
 use Rattle.std.specs.Int.{w64}
 use Rattle.inputs.specs.Inputs.{is_end}

@@ -5,11 +5,11 @@
 
 use bit_set::BitSet;
 use inputs::AT_THE_END;
-use libc::{STDERR_FILENO, STDIN_FILENO, STDOUT_FILENO};
 use numbers::Number;
 use registers::RegType;
 use sizes::{LAST_REGISTER, SHEET_BYTES};
 use split::{LINE_FEED, TAB};
+use std::io::Read;
 
 // An answer so far: the place after it, and the numbers that are registers.
 #[derive(Clone, Copy)]
@@ -88,46 +88,57 @@ fn show_line(out: &mut [u8], line: &[u8]) -> usize {
 }
 
 // Writes a text to standard output; standard error says where that failed.
-fn write(text: &[u8]) {
-    if !io::write_all(STDOUT_FILENO, text) {
-        io::write_all(STDERR_FILENO, b"leaves: an answer was not written whole\n");
+fn write(rt: &(impl Print + Eprint), text: &[u8]) {
+    if rt.write_all(text).is_err() {
+        let _ = rt.eprintln("leaves: an answer was not written whole");
     }
 }
 
 // Writes the answer that ends at `end`, or `full` where it found no room.
-fn say(answer: &[u8], end: usize) {
+fn say(rt: &(impl Print + Eprint), answer: &[u8], end: usize) {
     if end <= answer.len() {
-        write(&answer[0..end]);
+        write(rt, &answer[0..end]);
     } else {
-        write(b"full\n");
+        write(rt, b"full\n");
     }
 }
 
 // Each line that ends in a line feed.
-fn show_lines(sheet: &[u8]) {
+fn show_lines(rt: &(impl Print + Eprint), sheet: &[u8]) {
     let mut out = [0u8; 4096];
     let mut rest = sheet;
     let mut end = split::end_of(rest, LINE_FEED);
     while end < rest.len() {
         let answer_end = show_line(&mut out, split::part_before(rest, end));
-        say(&out, answer_end);
+        say(rt, &out, answer_end);
         let next = split::part_after(rest, end);
         rest = next;
         end = split::end_of(rest, LINE_FEED);
     }
 }
 
-fn main() {
+// Reads until the room is full, the input ends or a read fails; how many bytes came.
+fn read_input(from: &mut impl Read, input: &mut [u8]) -> usize {
+    let mut came = 0;
+    while came < input.len() {
+        let more = from.read(&mut input[came..]).unwrap_or(0);
+        if more == 0 {
+            return came;
+        }
+        came += more;
+    }
+    came
+}
+
+fn main(rt: HostRuntime) {
+    let mut from = rt.stdin();
     let mut input = [0u8; SHEET_BYTES];
-    let came = io::read_full(STDIN_FILENO, &mut input);
+    let came = read_input(&mut from, &mut input);
     let mut byte = [0u8; 1];
-    let further = libc::read(STDIN_FILENO, &mut byte);
+    let further = inputs::answer_of(&from.read(&mut byte));
     if further == AT_THE_END {
-        show_lines(&input[..came]);
+        show_lines(&rt, split::part_before(&input, came));
     } else {
-        io::write_all(
-            STDERR_FILENO,
-            b"leaves: no answer, since the input did not come whole\n",
-        );
+        let _ = rt.eprintln("leaves: no answer, since the input did not come whole");
     }
 }

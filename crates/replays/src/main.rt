@@ -7,10 +7,10 @@
 #![tactic(auto)]
 
 use inputs::AT_THE_END;
-use libc::{STDERR_FILENO, STDIN_FILENO, STDOUT_FILENO};
 use numbers::Number;
 use sizes::{LAST_NUMBER, SHEET_BYTES};
 use split::{LINE_FEED, TAB};
+use std::io::Read;
 
 // The longest sheet: some are longer than a sheet may be.
 const INPUT_BYTES: usize = 2 * SHEET_BYTES;
@@ -53,25 +53,24 @@ enum Verdict {
     Malformed,
 }
 
-fn next_byte() -> Next {
+fn next_byte(from: &mut impl Read) -> Next {
     let mut byte = [0u8; 1];
-    let n = io::read_full(STDIN_FILENO, &mut byte);
-    if n == 0 {
+    if !read_exactly(from, &mut byte, 1) {
         return Next::End;
     }
     Next::Byte(byte[0])
 }
 
 // Whether the input ended where no byte came: only a further read says so.
-fn is_ended() -> bool {
+fn is_ended(from: &mut impl Read) -> bool {
     let mut byte = [0u8; 1];
-    let further = libc::read(STDIN_FILENO, &mut byte);
+    let further = inputs::answer_of(&from.read(&mut byte));
     further == AT_THE_END
 }
 
 // Where no byte came in a line, after so many bytes of it.
-fn ended_after(bytes: usize) -> Lead {
-    if !is_ended() {
+fn ended_after(from: &mut impl Read, bytes: usize) -> Lead {
+    if !is_ended(from) {
         return Lead::Unread;
     }
     if bytes == 0 {
@@ -81,8 +80,8 @@ fn ended_after(bytes: usize) -> Lead {
 }
 
 // Where fewer bytes came than a sheet and its answer have.
-fn cut_short() -> Verdict {
-    if is_ended() {
+fn cut_short(from: &mut impl Read) -> Verdict {
+    if is_ended(from) {
         return Verdict::Malformed;
     }
     Verdict::Unread
@@ -123,13 +122,13 @@ fn lead_of(line: &[u8]) -> Lead {
 }
 
 // Reads the line that leads a sheet.
-fn read_lead() -> Lead {
+fn read_lead(from: &mut impl Read) -> Lead {
     let mut line = [0u8; LEAD_BYTES];
     let mut i = 0;
     while i < LEAD_BYTES {
-        let next = next_byte();
+        let next = next_byte(from);
         let Next::Byte(byte) = next else {
-            return ended_after(i);
+            return ended_after(from, i);
         };
         if byte == LINE_FEED {
             return lead_of(split::part_before(&line, i));
@@ -141,9 +140,9 @@ fn read_lead() -> Lead {
 }
 
 // Reads exactly so many bytes; whether there were as many, and room for them.
-fn read_exactly(bytes: &mut [u8], size: usize) -> bool {
+fn read_exactly(from: &mut impl Read, bytes: &mut [u8], size: usize) -> bool {
     if size <= bytes.len() {
-        return io::read_full(STDIN_FILENO, &mut bytes[0..size]) == size;
+        return from.read_exact(&mut bytes[0..size]).is_ok();
     }
     false
 }
@@ -178,91 +177,97 @@ fn put_reply(kind: Kind, sheet: &[u8], out: &mut [u8]) -> usize {
 }
 
 // Reads a sheet and its answer, and answers the sheet.
-fn replay(kind: Kind, sheet_bytes: usize, answer_bytes: usize) -> Verdict {
+fn replay(from: &mut impl Read, kind: Kind, sheet_bytes: usize, answer_bytes: usize) -> Verdict {
     let mut sheet = [0u8; INPUT_BYTES];
     let mut wanted = [0u8; SHEET_BYTES];
     let mut out = [UNTOUCHED; SHEET_BYTES];
     if INPUT_BYTES < sheet_bytes || SHEET_BYTES < answer_bytes {
         return Verdict::Malformed;
     }
-    if !read_exactly(&mut sheet, sheet_bytes) {
-        return cut_short();
+    if !read_exactly(from, &mut sheet, sheet_bytes) {
+        return cut_short(from);
     }
-    if !read_exactly(&mut wanted, answer_bytes) {
-        return cut_short();
+    if !read_exactly(from, &mut wanted, answer_bytes) {
+        return cut_short(from);
     }
     let end = put_reply(kind, split::part_before(&sheet, sheet_bytes), &mut out);
     compared(&out, end, split::part_before(&wanted, answer_bytes))
 }
 
 // The next sheet of the input.
-fn replay_next() -> Verdict {
-    match read_lead() {
+fn replay_next(from: &mut impl Read) -> Verdict {
+    match read_lead(from) {
         Lead::End => Verdict::End,
         Lead::Unread => Verdict::Unread,
         Lead::Malformed => Verdict::Malformed,
-        Lead::Sheet(kind, sheet, answer) => replay(kind, sheet as usize, answer as usize),
+        Lead::Sheet(kind, sheet, answer) => replay(from, kind, sheet as usize, answer as usize),
     }
 }
 
+// Writes a text; whether that was written.
+fn write(rt: &impl Print, text: &[u8]) -> bool {
+    rt.write_all(text).is_ok()
+}
+
 // Writes a number; whether that was written.
-fn write_number(n: u32) -> bool {
-    io::print_decimal(STDOUT_FILENO, n as u64)
+fn write_number(rt: &impl Print, n: u32) -> bool {
+    rt.print(n).is_ok()
 }
 
 // Says where a line was not written.
-fn told(written: bool) {
+fn told(rt: &impl Eprint, written: bool) {
     if !written {
-        io::write_all(STDERR_FILENO, b"replays: an answer was not written whole\n");
+        let _ = rt.eprintln("replays: an answer was not written whole");
     }
 }
 
 // Says that a sheet differs.
-fn say_differs(number: u32) {
-    told(write_number(number) && io::write_all(STDOUT_FILENO, b"\n"));
+fn say_differs(rt: &(impl Print + Eprint), number: u32) {
+    told(rt, write_number(rt, number) && write(rt, b"\n"));
 }
 
 // Says that a sheet is none.
-fn say_malformed(number: u32) {
-    let named = io::write_all(STDOUT_FILENO, b"malformed: sheet ");
-    told(named && write_number(number) && io::write_all(STDOUT_FILENO, b"\n"));
+fn say_malformed(rt: &(impl Print + Eprint), number: u32) {
+    let named = write(rt, b"malformed: sheet ");
+    told(rt, named && write_number(rt, number) && write(rt, b"\n"));
 }
 
 // Says that the input did not come whole.
-fn say_unread() {
-    io::write_all(
-        STDERR_FILENO,
-        b"replays: no answer, since the input did not come whole\n",
-    );
+fn say_unread(rt: &impl Eprint) {
+    let _ = rt.eprintln("replays: no answer, since the input did not come whole");
 }
 
 // Says how many sheets there were and how many differ.
-fn say_counts(sheets: u32, differ: u32) {
-    let counted = write_number(sheets) && io::write_all(STDOUT_FILENO, b" sheets, ");
-    told(counted && write_number(differ) && io::write_all(STDOUT_FILENO, b" differ\n"));
+fn say_counts(rt: &(impl Print + Eprint), sheets: u32, differ: u32) {
+    let counted = write_number(rt, sheets) && write(rt, b" sheets, ");
+    told(
+        rt,
+        counted && write_number(rt, differ) && write(rt, b" differ\n"),
+    );
 }
 
-fn main() {
+fn main(rt: HostRuntime) {
+    let mut from = rt.stdin();
     let mut sheets = 0;
     let mut differ = 0;
     while sheets < LAST_NUMBER {
-        let verdict = replay_next();
+        let verdict = replay_next(&mut from);
         match verdict {
             Verdict::End => {
-                say_counts(sheets, differ);
+                say_counts(&rt, sheets, differ);
                 return;
             }
             Verdict::Unread => {
-                say_unread();
+                say_unread(&rt);
                 return;
             }
             Verdict::Malformed => {
-                say_malformed(sheets + 1);
+                say_malformed(&rt, sheets + 1);
                 return;
             }
             Verdict::Same => {}
             Verdict::Differs => {
-                say_differs(sheets + 1);
+                say_differs(&rt, sheets + 1);
                 differ = std::num::wrapping_add_u32(differ, 1);
             }
         }

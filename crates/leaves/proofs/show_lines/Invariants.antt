@@ -4,7 +4,7 @@ use lib.ListN.{length}
 use Rattle.leaves.proofs.show_lines.Given as goal
 
 abbrev pub invariant-loop-end : goal.invariant-loop-end
-invariant-loop-end l = length l.out ≡ 4096
+invariant-loop-end g l = length l.out ≡ 4096
 
 abbrev pub decreases-loop-end : goal.decreases-loop-end
-decreases-loop-end l = length l.rest
+decreases-loop-end g l = length l.rest
