@@ -12,9 +12,9 @@ pub const INPUT_BYTES: usize = SHEET_BYTES + 1;
 
 // What a read answers where the input ends; where it fails it answers less.
 pub const AT_THE_END: isize = 0;
-// What it answers where bytes came, and where it failed.
+// What stands for an answer of bytes, however many came.
 const BYTES_CAME: isize = 1;
-
+// What stands for a read that failed.
 const FAILED: isize = -1;
 
 // What a read answered, as one number.

@@ -55,7 +55,7 @@ enum Verdict {
 
 fn next_byte(from: &mut impl Read) -> Next {
     let mut byte = [0u8; 1];
-    if !read_exactly(from, &mut byte, 1) {
+    if from.read_exact(&mut byte).is_err() {
         return Next::End;
     }
     Next::Byte(byte[0])
