@@ -2,8 +2,5 @@
 use Rattle.std.proofs.Common.{◌-◌, length}
 use Rattle.replays.proofs.is_untouched.Given as goal
 
-abbrev pub invariant-loop-i : goal.invariant-loop-i
-invariant-loop-i l = Unit
-
 abbrev pub decreases-loop-i : goal.decreases-loop-i
 decreases-loop-i l = length l.out - l.i

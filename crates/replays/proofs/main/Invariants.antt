@@ -2,8 +2,5 @@
 use Rattle.std.proofs.Common.{◌-◌}
 use Rattle.replays.proofs.main.Given as goal
 
-abbrev pub invariant-loop-sheets : goal.invariant-loop-sheets
-invariant-loop-sheets l = Unit
-
 abbrev pub decreases-loop-sheets : goal.decreases-loop-sheets
 decreases-loop-sheets l = 4294967295 - l.sheets
