@@ -42,7 +42,7 @@ def words_of(crate, file, name):
 
 def words(crate):
     """The words of the lines that a crate reads: all that stand in the file of its table."""
-    found = words_of(crate, "Words.antt", "lineWords")
+    found = words_of(crate, "Words.antt", "line_words")
     if len(found) != source(crate, "specs", "Words.antt").count('bytes "'):
         raise ValueError(f"{crate}: a word beside its table")
     return found
@@ -50,7 +50,7 @@ def words(crate):
 
 def instruction_words():
     """The words of the instructions: those that are printed."""
-    return words_of("instructions", "Instructions.antt", "instructionText")
+    return words_of("instructions", "Instructions.antt", "instruction_text")
 
 
 # ---- Sizes and refusals
