@@ -1,6 +1,6 @@
 -- A place for a term.
 use Rattle.std.specs.Prelude.{ℕ, zero, suc, ◌+◌, ◌-◌, ◌%◌, List, ltb, get_or}
-use Rattle.notation.specs.Choice.{if◌then◌else◌}
+use Rattle.std.specs.Prelude.{if◌then◌else◌}
 use Rattle.sizes.specs.Sizes.{registers, freed_registers, freed_slots}
 use Rattle.refusals.specs.Refusals.{accepted, refused_slot}
 use Rattle.bit_set.specs.BitSet.{inserted}

@@ -1,6 +1,6 @@
 -- One counter changed, the others kept. A counter's number is its place in the record, from 0.
 use Rattle.std.specs.Prelude.{ℕ, eqb}
-use Rattle.notation.specs.Choice.{if◌then◌else◌}
+use Rattle.std.specs.Prelude.{if◌then◌else◌}
 use Rattle.allocator_state.specs.declared.Counters.{Counters}
 
 -- the counter of that number becomes n

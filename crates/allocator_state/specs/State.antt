@@ -1,6 +1,6 @@
 -- The numbers of a fresh clause that are no table, rule 6.2, and how a counter runs.
 use Rattle.std.specs.Prelude.{ℕ, ◌+◌, ltb}
-use Rattle.notation.specs.Choice.{if◌then◌else◌}
+use Rattle.std.specs.Prelude.{if◌then◌else◌}
 use Rattle.sizes.specs.Sizes.{counters}
 use Rattle.bit_set.specs.BitSet.{empty_set}
 use Rattle.allocator_state.specs.declared.Counters.{Counters}

@@ -2,7 +2,7 @@
 use Rattle.std.specs.Prelude.{ℕ, zero, suc, ◌+◌, ◌≤◌, ◌/◌, ◌%◌, ◌≡◌, true, false, List, [], ◌∷◌, ◌++◌, ltb, length, take, drop}
 use Rattle.std.proofs.Common.{zero-le, ap₂, subst, ◌∙◌, arith, zero-add, length-append, take_all, take-take, le-leb}
 use Rattle.std.proofs.lemmas.List.{take-append-le}
-use Rattle.notation.specs.Choice.{if◌then◌else◌}
+use Rattle.std.specs.Prelude.{if◌then◌else◌}
 use Rattle.notation.specs.Text.{bytes}
 use Rattle.split.specs.Split.{joined, tab, line_feed}
 use Rattle.numbers.specs.Numbers.{digit, written, decimal}

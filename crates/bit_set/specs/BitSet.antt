@@ -1,7 +1,7 @@
 -- A set of numbers 0..63 is a 64-bit word: n is a member if the word's binary digit n is 1.
 use Rattle.std.specs.Prelude.{ℕ, ◌+◌, ◌-◌, ◌/◌, ◌%◌, ◌^◌, ◌<◌, Bool, eqb, leb}
 use Rattle.std.specs.Int.Bits.{bit_and, bit_or}
-use Rattle.notation.specs.Choice.{if◌then◌else◌}
+use Rattle.std.specs.Prelude.{if◌then◌else◌}
 
 -- the last number that can be a member, and the bits of the word: one for each number from 0 to it
 abbrev pub last_member : ℕ

@@ -6,7 +6,7 @@ use Rattle.std.specs.Int.Bits.{bit_and, bit_or}
 use Rattle.std.proofs.lemmas.Nat.{or_lt, and_le_l}
 use Rattle.std.proofs.Math.Pow.{pow-lt}
 use Rattle.std.proofs.lemmas.Bool.{lt-leb}
-use Rattle.notation.specs.Choice.{if◌then◌else◌}
+use Rattle.std.specs.Prelude.{if◌then◌else◌}
 use Rattle.bit_set.specs.BitSet.{last_member, members, Set, has, empty_set, inserted, removed, union}
 use Rattle.bit_set.specs.DigitLaws.{has_or, has-and, has-zero, has_pow, has_above, has_complement, same_digits}
 

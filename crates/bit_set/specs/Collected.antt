@@ -1,6 +1,6 @@
 -- A set given by a test: its members are the numbers 0..63 that pass.
 use Rattle.std.specs.Prelude.{ℕ, zero, suc, Bool, not, ◌&&◌}
-use Rattle.notation.specs.Choice.{if◌then◌else◌}
+use Rattle.std.specs.Prelude.{if◌then◌else◌}
 use Rattle.bit_set.specs.BitSet.{members, has, empty_set, inserted}
 
 -- the numbers below n that pass

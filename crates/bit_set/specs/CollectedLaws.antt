@@ -8,7 +8,7 @@ use Rattle.std.proofs.Math.Logic.{⊎_elim}
 use native.Mathlib.Omega.{arith}
 use Rattle.std.specs.Int.Bits.{bit_and, and_le_l}
 use borrow.Author.Tests.{leb-true, leb-false, eq-eqb, ne_eqb}
-use Rattle.notation.specs.Choice.{if◌then◌else◌}
+use Rattle.std.specs.Prelude.{if◌then◌else◌}
 use Rattle.bit_set.specs.BitSet.{last_member, members, Set, has, inserted, removed}
 use Rattle.bit_set.specs.DigitLaws.{has-and, has_complement}
 use Rattle.bit_set.specs.BitSetLaws.{has-empty, has-inserted, has-removed, inserted_outside, set-empty, set-inserted, set-removed, same-members}

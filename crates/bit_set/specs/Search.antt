@@ -1,6 +1,6 @@
 -- The numbers between two, and the first number that is clear: what a search in a set is made of.
 use Rattle.std.specs.Prelude.{ℕ, zero, suc, ◌-◌, Bool, not, ◌&&◌, leb, ltb}
-use Rattle.notation.specs.Choice.{if◌then◌else◌}
+use Rattle.std.specs.Prelude.{if◌then◌else◌}
 use Rattle.bit_set.specs.BitSet.{members, has}
 use Rattle.bit_set.specs.Collected.{collected}
 

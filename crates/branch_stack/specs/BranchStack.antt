@@ -1,6 +1,6 @@
 -- The open branches, rule 15.1, as two tables of rows.
 use Rattle.std.specs.Prelude.{ℕ, ◌+◌, ◌-◌, ◌*◌, ◌%◌, List, eqb, get_or, set}
-use Rattle.notation.specs.Choice.{if◌then◌else◌}
+use Rattle.std.specs.Prelude.{if◌then◌else◌}
 use Rattle.sizes.specs.Sizes.{open_branches}
 use Rattle.bit_set.specs.BitSet.{empty_set}
 use Rattle.forms.specs.declared.Branch.{Branch}

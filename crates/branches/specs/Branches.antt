@@ -1,6 +1,6 @@
 -- What `open`, `arm`, `take` and `close` do to the open branches and to the records, and how an occurrence is recorded.
 use Rattle.std.specs.Prelude.{ℕ, ◌+◌, ◌-◌, Bool, true, false, not, ◌||◌, List, [], ◌∷◌, eqb, leb, ltb, length}
-use Rattle.notation.specs.Choice.{if◌then◌else◌}
+use Rattle.std.specs.Prelude.{if◌then◌else◌}
 use Rattle.sizes.specs.Sizes.{open_branches, counts}
 use Rattle.refusals.specs.Refusals.{accepted, refused_stop, refused_full, refused_unreachable}
 use Rattle.bit_set.specs.BitSet.{has, empty_set, inserted, union}

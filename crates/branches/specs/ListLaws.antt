@@ -6,7 +6,7 @@ use Rattle.std.proofs.Common.{◌∙◌, arith, add-one, drop_of_length-le, shr-
 use Rattle.std.proofs.Math.Bool.{true, false, not}
 use Rattle.std.proofs.Math.Dec.{ltb}
 use borrow.Author.Tests.{ltb-true, ltb-false, eqb-true, not-false}
-use Rattle.notation.specs.Choice.{if◌then◌else◌}
+use Rattle.std.specs.Prelude.{if◌then◌else◌}
 use Rattle.sizes.specs.Sizes.{variables}
 use Rattle.bit_set.specs.BitSet.{has}
 use Rattle.notation.specs.Lists.{numbers_from}

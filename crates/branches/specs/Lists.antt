@@ -1,6 +1,6 @@
 -- The members of a set as a list, and a step made for each entry of a list.
 use Rattle.std.specs.Prelude.{ℕ, ◌/◌, ◌^◌, Bool, false, not, List, [], ◌∷◌, eqb, ltb}
-use Rattle.notation.specs.Choice.{if◌then◌else◌}
+use Rattle.std.specs.Prelude.{if◌then◌else◌}
 use Rattle.notation.specs.Lists.{numbers_from}
 use Rattle.sizes.specs.Sizes.{variables}
 use Rattle.bit_set.specs.BitSet.{has}

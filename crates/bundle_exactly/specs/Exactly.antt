@@ -1,6 +1,6 @@
 -- What a bundle is made of, what is due to it, and what it prints, in words of its bytes and lines alone: rules 18.1 to 18.8.
 use Rattle.std.specs.Prelude.{ℕ, zero, suc, ◌≤◌, ◌<◌, ◌≡◌, Bool, true, not, ◌&&◌, ◌≢◌, ◌⊎◌, List, [], ◌∷◌, ◌++◌, ltb, length, drop, replicate}
-use Rattle.notation.specs.Choice.{if◌then◌else◌}
+use Rattle.std.specs.Prelude.{if◌then◌else◌}
 use Rattle.notation.specs.Text.{bytes}
 use Rattle.refusals.specs.Refusals.{refused_form, refused_order, refused_full, refused_room}
 use Rattle.sizes.specs.Sizes.{sheet_bytes}

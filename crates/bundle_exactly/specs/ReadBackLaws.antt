@@ -3,7 +3,7 @@ use Rattle.std.specs.Prelude.{ℕ, ◌≤◌, ◌≡◌, refl, Bool, true, ◌&&
 use Rattle.std.proofs.Common.{ap, ap₂, subst, sym, ◌∙◌, true≢false, arith}
 use Rattle.std.proofs.Math.Bool.{false, not}
 use Rattle.std.proofs.lemmas.Bool.{not-true, not-false}
-use Rattle.notation.specs.Choice.{if◌then◌else◌}
+use Rattle.std.specs.Prelude.{if◌then◌else◌}
 use Rattle.notation.specs.ChoiceLaws.{both_true}
 use Rattle.sizes.specs.Sizes.{sheet_bytes}
 use Rattle.split.specs.Split.{line_feed, before}

@@ -1,6 +1,6 @@
 -- The whole answer to a bundle, for every list of bytes and every room: rules 1.1, 18.1 to 18.4, 18.6, 18.7.
 use Rattle.std.specs.Prelude.{ℕ, ◌-◌, Bool, false, not, ◌&&◌, ◌||◌, List, [], ◌∷◌, ◌++◌, eqb, ltb, length, get_or, take}
-use Rattle.notation.specs.Choice.{if◌then◌else◌}
+use Rattle.std.specs.Prelude.{if◌then◌else◌}
 use Rattle.notation.specs.Text.{bytes}
 use Rattle.refusals.specs.Refusals.{accepted, refused_form, refused_order, refused_full}
 use Rattle.sizes.specs.Sizes.{sheet_bytes}

@@ -4,7 +4,7 @@ use Rattle.std.proofs.Math.Path.{ap}
 use Rattle.std.proofs.Common.{ap₂, sym, ◌∙◌, arith, length-append, eqb-true, ltb-false}
 use mathlib.Core.List.{List, [], ◌∷◌, ◌++◌, append_assoc, nil≢cons}
 use Rattle.std.proofs.lemmas.Bool.{not-true, not-false}
-use Rattle.notation.specs.Choice.{if◌then◌else◌}
+use Rattle.std.specs.Prelude.{if◌then◌else◌}
 use Rattle.notation.specs.ChoiceLaws.{both_true, by_test}
 use Rattle.split.specs.Split.{line_feed, before, after, split, in_front}
 use Rattle.split.specs.SplitLaws.{split_more, split-last, split-some}

@@ -1,6 +1,6 @@
 -- What can stand behind the word of a line, field after field: rules 2.2, 2.3, 2.4, 4.1, 16.3, 19.1, 19.2.
 use Rattle.std.specs.Prelude.{ℕ, List, [], ◌∷◌, take, drop}
-use Rattle.notation.specs.Choice.{if◌then◌else◌}
+use Rattle.std.specs.Prelude.{if◌then◌else◌}
 use Rattle.notation.specs.Text.{bytes}
 use Rattle.words.specs.Words.{same}
 use Rattle.numbers.specs.declared.Number.{Number}

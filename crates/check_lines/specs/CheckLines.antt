@@ -1,6 +1,6 @@
 -- What a line of a check sheet says: rules 2.2, 2.4, 4.1, 19.1, 19.2.
 use Rattle.std.specs.Prelude.{ℕ, List, [], ◌∷◌}
-use Rattle.notation.specs.Choice.{if◌then◌else◌}
+use Rattle.std.specs.Prelude.{if◌then◌else◌}
 use Rattle.split.specs.Split.{tab, split}
 use Rattle.words.specs.Words.{same}
 use Rattle.check_lines.specs.declared.Line.{Line}

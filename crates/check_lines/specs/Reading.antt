@@ -1,7 +1,7 @@
 -- The walk of the code: a word's number, and by this number what the fields behind the word say. It means nothing by itself:
 -- `ReadingLaws.antt` proves that the table says the same.
 use Rattle.std.specs.Prelude.{ℕ, List, [], ◌∷◌, eqb, take, drop}
-use Rattle.notation.specs.Choice.{if◌then◌else◌}
+use Rattle.std.specs.Prelude.{if◌then◌else◌}
 use Rattle.notation.specs.Text.{bytes}
 use Rattle.words.specs.Words.{same, code_among}
 use Rattle.numbers.specs.declared.Number.{Number}

@@ -1,7 +1,7 @@
 -- The whole answer to a check sheet, for every list of bytes and every room: rules 1.1, 1.4, 21.6. Lines that stand before are
 -- listed with the last one first.
 use Rattle.std.specs.Prelude.{ℕ, suc, ◌-◌, ◌≡◌, Bool, true, false, ◌↔◌, List, [], ◌∷◌, ltb, length}
-use Rattle.notation.specs.Choice.{if◌then◌else◌}
+use Rattle.std.specs.Prelude.{if◌then◌else◌}
 use Rattle.notation.specs.Text.{bytes}
 use Rattle.refusals.specs.Refusals.{refused_form, refused_order, refused_full, refused_room}
 use Rattle.sizes.specs.Sizes.{sheet_bytes}

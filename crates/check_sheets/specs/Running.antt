@@ -1,6 +1,6 @@
 -- One run over the lines of a check sheet: how far a line gets, what the run answers, and what holds between two lines.
 use Rattle.std.specs.Prelude.{ℕ, ◌+◌, ◌-◌, ◌≤◌, ◌≡◌, Bool, false, List, ltb, length}
-use Rattle.notation.specs.Choice.{if◌then◌else◌}
+use Rattle.std.specs.Prelude.{if◌then◌else◌}
 use Rattle.refusals.specs.Refusals.{refused_form}
 use Rattle.sizes.specs.Sizes.{steps}
 use Rattle.split.specs.Split.{line_feed, before, split}

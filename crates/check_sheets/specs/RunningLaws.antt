@@ -6,7 +6,7 @@ use Rattle.std.proofs.Math.Bool.{true, false}
 use Rattle.std.proofs.Math.Dec.{ltb}
 use Rattle.std.proofs.Math.ListN.{take}
 use borrow.Author.Tests.{lt-ltb, le-ltb, ltb-false}
-use Rattle.notation.specs.Choice.{if◌then◌else◌}
+use Rattle.std.specs.Prelude.{if◌then◌else◌}
 use Rattle.refusals.specs.Refusals.{accepted, refused_form, refused_order}
 use Rattle.notation.specs.Lists.{numbers_from}
 use Rattle.sizes.specs.Sizes.{steps, variables}

@@ -3,7 +3,7 @@
 use Rattle.std.specs.Prelude.{ℕ, suc, ◌-◌, ◌≡◌, refl, Bool, true, false, List, [], ◌∷◌, ltb, length}
 use Rattle.std.proofs.Common.{sym, ◌∙◌, arith, ltb-false, eq-eqb}
 use Rattle.std.proofs.lemmas.Bool.{false≢true}
-use Rattle.notation.specs.Choice.{if◌then◌else◌}
+use Rattle.std.specs.Prelude.{if◌then◌else◌}
 use Rattle.refusals.specs.Refusals.{accepted, refused_form, refused_order}
 use Rattle.split.specs.Split.{line_feed, split}
 use Rattle.steps.specs.declared.CheckLine.{CheckLine}

@@ -6,7 +6,7 @@ use Rattle.std.proofs.Math.Bool.{and-true, and-false}
 use native.Mathlib.Omega.{arith}
 use Rattle.std.proofs.Math.Seq.{drop-cons}
 use Rattle.std.proofs.lemmas.Bool.{lt-leb}
-use Rattle.notation.specs.Choice.{if◌then◌else◌}
+use Rattle.std.specs.Prelude.{if◌then◌else◌}
 use Rattle.notation.specs.Lists.{numbers_from}
 use Rattle.sizes.specs.Sizes.{registers}
 use Rattle.temp_var_data.specs.Uses.{register_of}

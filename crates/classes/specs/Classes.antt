@@ -1,6 +1,6 @@
 -- Classes of names: what a list of equalities makes equal. Each name has a label, the least name of its class.
 use Rattle.std.specs.Prelude.{ℕ, ◌+◌, ◌*◌, min, max, Bool, true, ◌&&◌, List, [], ◌∷◌, map, ltb, eqb, get_or}
-use Rattle.notation.specs.Choice.{if◌then◌else◌}
+use Rattle.std.specs.Prelude.{if◌then◌else◌}
 use Rattle.notation.specs.Lists.{numbers_from}
 use Rattle.sizes.specs.Sizes.{steps}
 

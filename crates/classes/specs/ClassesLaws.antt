@@ -9,7 +9,7 @@ use native.Mathlib.Omega.{arith}
 use Rattle.std.proofs.Math.ListN.{length, get_or-map, get_or-eq_default, drop_of_length-le}
 use Rattle.std.proofs.lemmas.List.{length-map}
 use Rattle.std.proofs.Math.Seq.{drop-cons}
-use Rattle.notation.specs.Choice.{if◌then◌else◌}
+use Rattle.std.specs.Prelude.{if◌then◌else◌}
 use Rattle.notation.specs.ChoiceLaws.{both_true}
 use Rattle.notation.specs.Lists.{numbers_from}
 use Rattle.notation.specs.ListLaws.{length_numbers, get_or_numbers}

@@ -1,6 +1,6 @@
 -- The records of a clause, as its lines give them, and their restricting sets.
 use Rattle.std.specs.Prelude.{ℕ, ◌+◌, ◌%◌, List, map, leb, set}
-use Rattle.notation.specs.Choice.{if◌then◌else◌}
+use Rattle.std.specs.Prelude.{if◌then◌else◌}
 use Rattle.sizes.specs.Sizes.{variables}
 use Rattle.refusals.specs.Refusals.{refused_full}
 use Rattle.bit_set.specs.BitSet.{empty_set}

@@ -1,6 +1,6 @@
 -- Each line of an event sheet, as a step of the state.
 use Rattle.std.specs.Prelude.{ℕ, List, ltb}
-use Rattle.notation.specs.Choice.{if◌then◌else◌}
+use Rattle.std.specs.Prelude.{if◌then◌else◌}
 use Rattle.refusals.specs.Refusals.{accepted}
 use Rattle.registers.specs.declared.RegType.{RegType}
 use Rattle.code_deque.specs.declared.CodeDeque.{CodeDeque}

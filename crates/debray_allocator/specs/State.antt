@@ -1,6 +1,6 @@
 -- What a clause keeps: rule 6.1.
 use Rattle.std.specs.Prelude.{ℕ, ◌+◌, ◌*◌, List, eqb, replicate}
-use Rattle.notation.specs.Choice.{if◌then◌else◌}
+use Rattle.std.specs.Prelude.{if◌then◌else◌}
 use Rattle.sizes.specs.Sizes.{variables, uses, registers, open_branches, freed_registers, freed_slots}
 use Rattle.variable_records.specs.Rows.{row_cells}
 use Rattle.shallow_temp_mappings.specs.Mappings.{unmapped}

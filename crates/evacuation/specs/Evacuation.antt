@@ -1,6 +1,6 @@
 -- The choice of a register for a variable by its sets, and the evacuation of a register.
 use Rattle.std.specs.Prelude.{ℕ, not, List, eqb, leb}
-use Rattle.notation.specs.Choice.{if◌then◌else◌}
+use Rattle.std.specs.Prelude.{if◌then◌else◌}
 use Rattle.sizes.specs.Sizes.{variables}
 use Rattle.refusals.specs.Refusals.{accepted, refused_register}
 use Rattle.bit_set.specs.BitSet.{inserted, union}

@@ -1,6 +1,6 @@
 -- One line of an event sheet, given to a state, for every state, every list of bytes and every room: rules 17.1 to 17.3, 17.6.
 use Rattle.std.specs.Prelude.{ℕ, not, List, [], ◌∷◌, ltb, length}
-use Rattle.notation.specs.Choice.{if◌then◌else◌}
+use Rattle.std.specs.Prelude.{if◌then◌else◌}
 use Rattle.refusals.specs.Refusals.{refused_form, refused_size, refused_full, refused_room}
 use Rattle.sizes.specs.Sizes.{sheet_bytes}
 use Rattle.split.specs.Split.{line_feed, split}

@@ -1,7 +1,7 @@
 -- Laws of a call: there is one answer, it stays within the room, and a refusal leaves state and room as they were.
 use Rattle.std.specs.Prelude.{ℕ, ◌≤◌, ◌≡◌, refl, true, false, not, List, ltb, length}
 use Rattle.std.proofs.Common.{ap, sym, ◌∙◌, arith, ltb-false}
-use Rattle.notation.specs.Choice.{if◌then◌else◌}
+use Rattle.std.specs.Prelude.{if◌then◌else◌}
 use Rattle.notation.specs.ChoiceLaws.{either}
 use Rattle.refusals.specs.Refusals.{refused_size, refused_full, refused_room}
 use Rattle.sizes.specs.Sizes.{sheet_bytes}

@@ -1,6 +1,6 @@
 -- What one field of an event's line says, or one entry of its list; other bytes have no form: rules 2.4, 5.3 to 5.5, 5.9.
 use Rattle.std.specs.Prelude.{ℕ, ◌+◌, ◌&&◌, List, ltb, take, drop}
-use Rattle.notation.specs.Choice.{if◌then◌else◌}
+use Rattle.std.specs.Prelude.{if◌then◌else◌}
 use Rattle.notation.specs.Text.{byte, bytes}
 use Rattle.sizes.specs.Sizes.{variables, is_register, is_chunk}
 use Rattle.split.specs.Split.{before, after}

@@ -1,7 +1,7 @@
 -- Laws of fields that are one letter, and of entries: what is outside its size is refused by it, and nothing else is.
 use Rattle.std.specs.Prelude.{ℕ, ◌≤◌, ◌≡◌, refl, List, [], ◌∷◌, true, false, ◌&&◌, eqb, leb, ltb, length, get_or}
 use Rattle.std.proofs.Common.{sym, arith, le-leb, leb-true, le-ltb, ltb-true, ltb-false, ne_eqb}
-use Rattle.notation.specs.Choice.{if◌then◌else◌}
+use Rattle.std.specs.Prelude.{if◌then◌else◌}
 use Rattle.notation.specs.ChoiceLaws.{both_true}
 use Rattle.words.specs.Words.{same}
 use Rattle.sizes.specs.Sizes.{variables, registers, chunks, is_register, is_chunk}

@@ -1,6 +1,6 @@
 -- What a line of an event sheet says, and the entries of its list: rules 2.2, 2.4, 4.1.
 use Rattle.std.specs.Prelude.{ℕ, List, [], ◌∷◌}
-use Rattle.notation.specs.Choice.{if◌then◌else◌}
+use Rattle.std.specs.Prelude.{if◌then◌else◌}
 use Rattle.split.specs.Split.{tab, split}
 use Rattle.words.specs.Words.{same}
 use Rattle.event_lines.specs.declared.Line.{Line}

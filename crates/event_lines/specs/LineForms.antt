@@ -1,7 +1,7 @@
 -- Forms of what stands behind a line's word: one field after the other, or a list. Rules 2.3, 2.4, 4.13, 5.3 to 5.5.
 use Rattle.std.specs.Prelude.{ℕ, Bool, true, false, ◌&&◌, length}
 use mathlib.Core.List.{List, [], ◌∷◌, tail}
-use Rattle.notation.specs.Choice.{if◌then◌else◌}
+use Rattle.std.specs.Prelude.{if◌then◌else◌}
 use Rattle.notation.specs.Text.{byte, bytes}
 use Rattle.split.specs.Split.{split}
 use Rattle.words.specs.Words.{same}

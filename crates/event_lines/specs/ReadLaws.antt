@@ -5,7 +5,7 @@ use Rattle.std.proofs.Math.Bool.{true, false}
 use mathlib.Core.List.{List, [], ◌∷◌, tail}
 use Rattle.std.proofs.Math.Seq.{take-nil, drop-nil, set_out}
 use borrow.Author.Tests.{le-leb, lt-leb, leb-true, leb-false, ltb-true, ltb-false, ne_eqb}
-use Rattle.notation.specs.Choice.{if◌then◌else◌}
+use Rattle.std.specs.Prelude.{if◌then◌else◌}
 use Rattle.notation.specs.Text.{bytes}
 use Rattle.split.specs.Split.{tab, split}
 use Rattle.words.specs.Words.{same}

@@ -1,7 +1,7 @@
 -- How the code reads a line: by the number of its word, a range of numbers after the other. No reader has to believe it:
 -- `read_at` in RowLaws says that each number is read as its row of the table says.
 use Rattle.std.specs.Prelude.{ℕ, suc, List, [], ◌∷◌, map, eqb, leb, length, drop}
-use Rattle.notation.specs.Choice.{if◌then◌else◌}
+use Rattle.std.specs.Prelude.{if◌then◌else◌}
 use Rattle.words.specs.Words.{code_among}
 use Rattle.numbers.specs.declared.Number.{Number}
 use Rattle.numbers.specs.declared.Number.TheVariants.{Of, Malformed as no_number}

@@ -4,7 +4,7 @@ use Rattle.std.proofs.Math.Path.{ap, ap₂, sym}
 use Rattle.std.proofs.Common.{◌∙◌, zero-add, arith, length-append, length-drop, take_all}
 use Rattle.std.proofs.Math.ListN.{length}
 use borrow.Author.Tests.{lt-ltb, le-ltb}
-use Rattle.notation.specs.Choice.{if◌then◌else◌}
+use Rattle.std.specs.Prelude.{if◌then◌else◌}
 use Rattle.refusals.specs.Refusals.{refused_full, refused_room}
 use Rattle.sizes.specs.Sizes.{sheet_bytes}
 use Rattle.printing.specs.Printing.{printed}

@@ -1,6 +1,6 @@
 -- The whole answer to an event sheet, for every list of bytes and every room: rules 1.1, 1.4.
 use Rattle.std.specs.Prelude.{ℕ, suc, ◌-◌, List, [], ◌∷◌, ◌++◌, leb, ltb, length}
-use Rattle.notation.specs.Choice.{if◌then◌else◌}
+use Rattle.std.specs.Prelude.{if◌then◌else◌}
 use Rattle.refusals.specs.Refusals.{accepted, refused_form, refused_full, refused_room}
 use Rattle.sizes.specs.Sizes.{sheet_bytes}
 use Rattle.split.specs.Split.{line_feed, split}

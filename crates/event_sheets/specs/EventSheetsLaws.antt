@@ -2,7 +2,7 @@
 use Rattle.std.specs.Prelude.{ℕ, suc, ◌+◌, ◌-◌, ◌*◌, ◌≤◌, ◌<◌, ◌≡◌, refl, Bool, true, false, not, ◌&&◌, List, [], ◌∷◌, ◌++◌, ltb, length, drop}
 use Rattle.std.proofs.Common.{ap, sym, ◌∙◌, append_assoc, add-zero, arith, length-append, ltb-false}
 use Rattle.std.proofs.lemmas.Bool.{not-true}
-use Rattle.notation.specs.Choice.{if◌then◌else◌}
+use Rattle.std.specs.Prelude.{if◌then◌else◌}
 use Rattle.notation.specs.ChoiceLaws.{both_true, either}
 use Rattle.refusals.specs.Refusals.{refused_form, refused_full, refused_room}
 use Rattle.sizes.specs.Sizes.{sheet_bytes}

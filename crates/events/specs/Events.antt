@@ -1,6 +1,6 @@
 -- What a line of an event sheet says, and what refuses it before it is carried out.
 use Rattle.std.specs.Prelude.{ℕ, ◌+◌, Bool, true, false, ◌&&◌, ◌||◌, List, [], ◌∷◌, eqb, leb, ltb, length}
-use Rattle.notation.specs.Choice.{if◌then◌else◌}
+use Rattle.std.specs.Prelude.{if◌then◌else◌}
 use Rattle.refusals.specs.Refusals.{accepted, refused_order, refused_size, refused_full}
 use Rattle.sizes.specs.Sizes.{variables, uses, registers, counters, chunks, is_register, is_argument, is_chunk, is_count}
 use Rattle.forms.specs.declared.GenContext.{GenContext}

@@ -2,7 +2,7 @@
 use Rattle.std.specs.Prelude.{ℕ, zero, suc, ◌+◌, ◌-◌, ◌≤◌, ◌<◌, ◌≡◌, refl, List, [], ◌∷◌, true, false, eqb, length, take, drop}
 use Rattle.std.proofs.Common.{ap, arith, length-drop}
 use Rattle.std.proofs.Math.Seq.{take-nil}
-use Rattle.notation.specs.Choice.{if◌then◌else◌}
+use Rattle.std.specs.Prelude.{if◌then◌else◌}
 use Rattle.split.specs.Split.{tab, before, split, in_front}
 use Rattle.split.specs.SplitLaws.{before_le, take-before}
 use Rattle.fields.specs.Fields.{field_end, fields_left}

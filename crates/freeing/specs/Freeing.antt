@@ -1,6 +1,6 @@
 -- A variable is counted or freed.
 use Rattle.std.specs.Prelude.{ℕ, ◌+◌, List, leb, ltb}
-use Rattle.notation.specs.Choice.{if◌then◌else◌}
+use Rattle.std.specs.Prelude.{if◌then◌else◌}
 use Rattle.sizes.specs.Sizes.{freed_slots}
 use Rattle.refusals.specs.Refusals.{accepted, refused_full}
 use Rattle.variable_records.specs.declared.PermVarAllocation.TheVariants.{Pending}

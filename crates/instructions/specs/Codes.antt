@@ -1,6 +1,6 @@
 -- An instruction's code: its number, its place and its argument, and the fields of a line that they settle.
 use Rattle.std.specs.Prelude.{ℕ, List, [], ◌∷◌, leb, get_or}
-use Rattle.notation.specs.Choice.{if◌then◌else◌}
+use Rattle.std.specs.Prelude.{if◌then◌else◌}
 use Rattle.notation.specs.Text.{bytes}
 use Rattle.numbers.specs.Numbers.{decimal}
 use Rattle.registers.specs.declared.RegType.{RegType}

@@ -1,6 +1,6 @@
 -- The machine of a check sheet: rules 20.1 to 20.9. After Aït-Kaci, Warren's Abstract Machine: A Tutorial Reconstruction.
 use Rattle.std.specs.Prelude.{ℕ, suc, Bool, false, List, [], ◌∷◌, ◌++◌, map, eqb}
-use Rattle.notation.specs.Choice.{if◌then◌else◌}
+use Rattle.std.specs.Prelude.{if◌then◌else◌}
 use Rattle.registers.specs.declared.RegType.{RegType}
 use Rattle.registers.specs.declared.RegType.TheVariants.{Temp, Perm}
 use Rattle.instructions.specs.declared.Instruction.{Instruction}

@@ -1,6 +1,6 @@
 -- A variable is marked: rules 12.1 to 12.12.
 use Rattle.std.specs.Prelude.{ℕ, Bool, true, false, List, eqb, ltb}
-use Rattle.notation.specs.Choice.{if◌then◌else◌}
+use Rattle.std.specs.Prelude.{if◌then◌else◌}
 use Rattle.refusals.specs.Refusals.{accepted}
 use Rattle.bit_set.specs.BitSet.{inserted}
 use Rattle.registers.specs.declared.RegType.{RegType}

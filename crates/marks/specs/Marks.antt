@@ -1,6 +1,6 @@
 -- A register for a new temporary: rule 12.1.
 use Rattle.std.specs.Prelude.{ℕ, List, ltb}
-use Rattle.notation.specs.Choice.{if◌then◌else◌}
+use Rattle.std.specs.Prelude.{if◌then◌else◌}
 use Rattle.forms.specs.declared.GenContext.{GenContext}
 use Rattle.forms.specs.declared.GenContext.TheVariants.{Head, Mid, Last}
 use Rattle.forms.specs.declared.Level.{Level}

@@ -1,4 +1,3 @@
-pub mod Choice
 pub mod ChoiceLaws
 pub mod EquationLaws
 pub mod Text

@@ -1,7 +1,7 @@
 -- Laws of printed numbers: one digit, or a number's last digit behind the rest.
 use Rattle.std.specs.Prelude.{ℕ, zero, suc, ◌+◌, ◌*◌, ◌/◌, ◌%◌, ◌^◌, ◌≤◌, ◌<◌, ◌≡◌, refl, List, [], ◌∷◌, ◌++◌, Bool, true, false, ltb, length}
 use Rattle.std.proofs.Common.{zero-le, ap, sym, ◌∙◌, arith, pow-suc, mod-eq_of_lt, length-append, lt-ltb, le-ltb}
-use Rattle.notation.specs.Choice.{if◌then◌else◌}
+use Rattle.std.specs.Prelude.{if◌then◌else◌}
 use Rattle.numbers.specs.Numbers.{digit, written, decimal}
 
 -- more digits than are needed change nothing

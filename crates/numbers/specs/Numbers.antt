@@ -1,6 +1,6 @@
 -- Numbers, as a field has them and as they are printed.
 use Rattle.std.specs.Prelude.{ℕ, zero, suc, ◌+◌, ◌-◌, ◌*◌, ◌/◌, ◌%◌, List, [], ◌∷◌, ◌++◌, Bool, true, false, not, ◌&&◌, eqb, leb, ltb, length}
-use Rattle.notation.specs.Choice.{if◌then◌else◌}
+use Rattle.std.specs.Prelude.{if◌then◌else◌}
 use Rattle.notation.specs.Text.{byte}
 use Rattle.sizes.specs.Sizes.{largest_number}
 use Rattle.numbers.specs.declared.Number.{Number}

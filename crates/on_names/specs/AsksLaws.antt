@@ -5,7 +5,7 @@ use Rattle.std.proofs.Common.{ap, ◌∙◌, length-set, get_or-set_same, get_or
 use mathlib.Core.List.{List, [], ◌∷◌, ◌++◌, map, append-nil}
 use native.Mathlib.Omega.{arith}
 use Rattle.std.proofs.lemmas.Bool.{eqb-false}
-use Rattle.notation.specs.Choice.{if◌then◌else◌}
+use Rattle.std.specs.Prelude.{if◌then◌else◌}
 use Rattle.sizes.specs.Sizes.{variables, steps}
 use Rattle.sizes.specs.SizesLaws.{register_exactly}
 use Rattle.registers.specs.declared.RegType.TheVariants.{Temp}

@@ -1,6 +1,6 @@
 -- Marks of what is no ordinary occurrence of a variable.
 use Rattle.std.specs.Prelude.{ℕ, Bool, true, false, List, eqb, ltb}
-use Rattle.notation.specs.Choice.{if◌then◌else◌}
+use Rattle.std.specs.Prelude.{if◌then◌else◌}
 use Rattle.refusals.specs.Refusals.{refused_register}
 use Rattle.bit_set.specs.BitSet.{inserted}
 use Rattle.registers.specs.declared.RegType.{RegType}

@@ -1,6 +1,6 @@
 -- A text printed into lent bytes `out` at a place `at`.
 use Rattle.std.specs.Prelude.{ℕ, ◌+◌, ◌≡◌, List, ◌++◌, leb, length, take, drop}
-use Rattle.notation.specs.Choice.{if◌then◌else◌}
+use Rattle.std.specs.Prelude.{if◌then◌else◌}
 
 -- the lent bytes afterwards: those before the place, then the text, then those behind it; what finds no room is left out
 unfoldable pub printed : List ℕ → ℕ → List ℕ → List ℕ

@@ -1,6 +1,6 @@
 -- What a mark does to the record of its variable.
 use Rattle.std.specs.Prelude.{ℕ, Bool, false, ◌&&◌, ◌||◌, eqb}
-use Rattle.notation.specs.Choice.{if◌then◌else◌}
+use Rattle.std.specs.Prelude.{if◌then◌else◌}
 use Rattle.forms.specs.declared.Branch.{Branch}
 use Rattle.forms.specs.declared.GenContext.{GenContext}
 use Rattle.forms.specs.declared.GenContext.TheVariants.{Head, Mid, Last}

@@ -5,7 +5,7 @@ use Rattle.std.proofs.Math.Path.{refl}
 use Rattle.std.proofs.Common.{sym, ◌∙◌, arith}
 use Rattle.std.proofs.lemmas.Bool.{false≢true}
 use borrow.Author.Tests.{ltb-true}
-use Rattle.notation.specs.Choice.{if◌then◌else◌}
+use Rattle.std.specs.Prelude.{if◌then◌else◌}
 use Rattle.notation.specs.ChoiceLaws.{either, by_test}
 use Rattle.refusals.specs.Refusals.{accepted, refused_stop, refused_full}
 use Rattle.sizes.specs.Sizes.{counts, freed_registers, freed_slots, open_branches}

@@ -1,6 +1,6 @@
 -- The instruction for a variable whose place is known.
 use Rattle.std.specs.Prelude.{ℕ, Bool, false, not, ◌||◌, List, eqb, leb, ltb}
-use Rattle.notation.specs.Choice.{if◌then◌else◌}
+use Rattle.std.specs.Prelude.{if◌then◌else◌}
 use Rattle.sizes.specs.Sizes.{variables}
 use Rattle.refusals.specs.Refusals.{accepted, refused_unreachable}
 use Rattle.forms.specs.Forms.{chunk_num}

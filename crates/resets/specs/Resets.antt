@@ -1,6 +1,6 @@
 -- The events that set numbers: rules 14.1 to 14.10.
 use Rattle.std.specs.Prelude.{ℕ, ◌+◌, Bool, false, List, [], ◌∷◌, eqb, leb, length, take, set, replicate}
-use Rattle.notation.specs.Choice.{if◌then◌else◌}
+use Rattle.std.specs.Prelude.{if◌then◌else◌}
 use Rattle.sizes.specs.Sizes.{variables, registers, counts, freed_registers}
 use Rattle.refusals.specs.Refusals.{accepted, refused_stop, refused_full}
 use Rattle.bit_set.specs.BitSet.{empty_set, inserted, removed}

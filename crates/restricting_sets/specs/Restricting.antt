@@ -1,7 +1,7 @@
 -- The restricting sets of all temporaries, as `sets` makes them: rules 7.2 and 7.3.
 use Rattle.std.specs.Prelude.{ℕ, zero, suc, ◌+◌, ◌≡◌, Bool, not, ◌&&◌, ◌||◌, eqb, ltb, get_or}
 use mathlib.Core.List.{List, [], ◌∷◌, ◌++◌, foldl}
-use Rattle.notation.specs.Choice.{if◌then◌else◌}
+use Rattle.std.specs.Prelude.{if◌then◌else◌}
 use Rattle.sizes.specs.Sizes.{variables, chunks as last_chunk, is_chunk}
 use Rattle.bit_set.specs.BitSet.{has}
 use Rattle.bit_set.specs.Collected.{collected}

@@ -5,7 +5,7 @@ use Rattle.std.proofs.Common.{sym, ◌∙◌, arith}
 use Rattle.std.proofs.Math.Bool.{or-true}
 use Rattle.std.proofs.lemmas.Bool.{false≢true}
 use borrow.Author.Tests.{lt-ltb, le-ltb, leb-false, eq-eqb}
-use Rattle.notation.specs.Choice.{if◌then◌else◌}
+use Rattle.std.specs.Prelude.{if◌then◌else◌}
 use Rattle.sizes.specs.Sizes.{variables, registers, freed_slots}
 use Rattle.bit_set.specs.BitSet.{has}
 use Rattle.bit_set.specs.BitSetLaws.{has-inserted}

@@ -1,6 +1,6 @@
 -- The mapping of rule 6.1: which temporary's value stands in which register.
 use Rattle.std.specs.Prelude.{ℕ, List, leb, get_or, set}
-use Rattle.notation.specs.Choice.{if◌then◌else◌}
+use Rattle.std.specs.Prelude.{if◌then◌else◌}
 use Rattle.sizes.specs.Sizes.{variables, registers}
 
 -- no variable

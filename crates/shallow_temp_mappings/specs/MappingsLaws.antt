@@ -1,7 +1,7 @@
 -- Laws of mappings: what a register maps to after one was mapped.
 use Rattle.std.specs.Prelude.{ℕ, suc, ◌≤◌, ◌≡◌, refl, ◌≢◌, true, false, List, leb, length, get_or, set}
 use Rattle.std.proofs.Common.{ap, arith, get_or-set_same, get_or-set_other, le-leb}
-use Rattle.notation.specs.Choice.{if◌then◌else◌}
+use Rattle.std.specs.Prelude.{if◌then◌else◌}
 use Rattle.sizes.specs.Sizes.{registers}
 use Rattle.shallow_temp_mappings.specs.Mappings.{unmapped, mapped_at, mapped_with}
 

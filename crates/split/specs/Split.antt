@@ -1,6 +1,6 @@
 -- A list of bytes cut at a mark: at LF into lines, rule 2.1, and at tabs into fields, rule 2.2.
 use Rattle.std.specs.Prelude.{ℕ, List, [], ◌∷◌, ◌++◌, eqb}
-use Rattle.notation.specs.Choice.{if◌then◌else◌}
+use Rattle.std.specs.Prelude.{if◌then◌else◌}
 use Rattle.notation.specs.Text.{byte}
 
 abbrev pub tab : ℕ

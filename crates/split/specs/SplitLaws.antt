@@ -2,7 +2,7 @@
 use Rattle.std.specs.Prelude.{ℕ, suc, ◌+◌, ◌-◌, ◌≤◌, ◌<◌, ◌≡◌, refl, List, [], ◌∷◌, ◌++◌, Bool, true, false, eqb, length, get_or, take, drop}
 use Rattle.std.proofs.Common.{zero-le, suc-le-suc, ap, sym, ◌∙◌, add-one, arith, length-drop, drop_of_length-le, drop-cons, take_all, eq-eqb, ne_eqb, eqb-true}
 use Rattle.std.proofs.lemmas.Bool.{eqb-false}
-use Rattle.notation.specs.Choice.{if◌then◌else◌}
+use Rattle.std.specs.Prelude.{if◌then◌else◌}
 use Rattle.split.specs.Split.{before, after, split, in_front, joined}
 
 -- ---- One byte at a time

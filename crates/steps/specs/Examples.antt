@@ -1,6 +1,6 @@
 -- Lines in an order, each with its refusal: rules 19.3, 19.4, 19.6 to 19.10.
 use Rattle.std.specs.Prelude.{ℕ, ◌≡◌, refl, List, [], ◌∷◌, eqb}
-use Rattle.notation.specs.Choice.{if◌then◌else◌}
+use Rattle.std.specs.Prelude.{if◌then◌else◌}
 use Rattle.refusals.specs.Refusals.{accepted, refused_order}
 use Rattle.registers.specs.declared.RegType.TheVariants.{Temp, Perm}
 use Rattle.instructions.specs.declared.Instruction.TheVariants.{GetVariable, PutVariable, PutValue, PutUnsafeValue, SetVariable, SetValue, UnifyValue}

@@ -1,6 +1,6 @@
 -- What is kept of the lines so far, and what it says of the next one: an order, which sums them up (SumsLaws).
 use Rattle.std.specs.Prelude.{ℕ, ◌+◌, Bool, true, false, ◌&&◌, ◌||◌, eqb, leb}
-use Rattle.notation.specs.Choice.{if◌then◌else◌}
+use Rattle.std.specs.Prelude.{if◌then◌else◌}
 use Rattle.refusals.specs.Refusals.{accepted, refused_order}
 use Rattle.sizes.specs.Sizes.{steps, instructions}
 use Rattle.bit_set.specs.BitSet.{has, empty_set, inserted}

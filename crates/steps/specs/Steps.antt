@@ -1,7 +1,7 @@
 -- The lines of a check sheet, and what refuses one behind the lines before it: rules 3.15, 3.16, 4.12, 19.3 to 19.10.
 -- Lines and steps that stand before are listed with the last one first.
 use Rattle.std.specs.Prelude.{ℕ, Bool, true, false, not, ◌&&◌, ◌||◌, List, [], ◌∷◌, eqb, leb, ltb, length}
-use Rattle.notation.specs.Choice.{if◌then◌else◌}
+use Rattle.std.specs.Prelude.{if◌then◌else◌}
 use Rattle.refusals.specs.Refusals.{accepted, refused_order, refused_size, refused_full}
 use Rattle.sizes.specs.Sizes.{variables, steps as step_lines, instructions as step_instructions, is_register}
 use Rattle.registers.specs.declared.RegType.{RegType}

@@ -1,7 +1,7 @@
 -- The run of a check sheet on names: each place, each step's number and what a call leaves in each register stands for itself,
 -- and everything that the machine ever holds is a name. Both sides of the sheet are carried along, line by line.
 use Rattle.std.specs.Prelude.{ℕ, zero, suc, ◌+◌, Bool, true, ◌&&◌, List, [], ◌∷◌, eqb, ltb, get_or, set, take, replicate}
-use Rattle.notation.specs.Choice.{if◌then◌else◌}
+use Rattle.std.specs.Prelude.{if◌then◌else◌}
 use Rattle.notation.specs.Lists.{numbers_from}
 use Rattle.refusals.specs.Refusals.{accepted, refused_full}
 use Rattle.sizes.specs.Sizes.{registers, variables, steps}

@@ -10,7 +10,7 @@ use Rattle.std.proofs.Common.{get_or-set_same, get_or-set_other, take-suc-set, d
 use Rattle.std.proofs.lemmas.List.{take-set-le}
 use Rattle.std.proofs.Math.Seq.{drop-set-add}
 use borrow.Author.Tests.{lt-ltb, le-ltb, ltb-true, ltb-false}
-use Rattle.notation.specs.Choice.{if◌then◌else◌}
+use Rattle.std.specs.Prelude.{if◌then◌else◌}
 use Rattle.notation.specs.ChoiceLaws.{both_true}
 use Rattle.sizes.specs.Sizes.{variables, uses}
 use Rattle.temp_var_data.specs.Uses.{uses_of, contains_use, takes_use, use_sets_with, use_counts_with, UseAdded}

@@ -1,7 +1,7 @@
 -- Laws of sets that are collected use by use.
 use Rattle.std.specs.Prelude.{ℕ, suc, ◌≤◌, ◌<◌, ◌≡◌, Bool, ◌&&◌, ◌||◌, List, eqb, length, get_or, take}
 use Rattle.std.proofs.Common.{sym, ap, ◌∙◌, take_all}
-use Rattle.notation.specs.Choice.{if◌then◌else◌}
+use Rattle.std.specs.Prelude.{if◌then◌else◌}
 use Rattle.sizes.specs.Sizes.{registers}
 use Rattle.bit_set.specs.BitSet.{empty_set, inserted}
 use Rattle.bit_set.specs.BitSetLaws.{has-empty, set-empty}

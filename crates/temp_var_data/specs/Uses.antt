@@ -1,6 +1,6 @@
 -- Use sets, rule 7.1, kept beside the records as rows of one table, and what is read off them.
 use Rattle.std.specs.Prelude.{ℕ, ◌+◌, ◌*◌, ◌/◌, ◌%◌, min, ◌≡◌, Bool, not, ◌&&◌, List, eqb, leb, ltb, length, get_or, take, drop, set}
-use Rattle.notation.specs.Choice.{if◌then◌else◌}
+use Rattle.std.specs.Prelude.{if◌then◌else◌}
 use Rattle.sizes.specs.Sizes.{variables, uses}
 use Rattle.bit_set.specs.Collected.{collected}
 use Rattle.temp_var_data.specs.Lists.{any}

@@ -6,7 +6,7 @@ use Rattle.std.proofs.Math.Bool.{true, false}
 use Rattle.std.proofs.Math.Dec.{ltb}
 use Rattle.std.proofs.Math.ListN.{get_or, set}
 use borrow.Author.Tests.{eqb-true, eqb-false, ltb-true, lt-ltb}
-use Rattle.notation.specs.Choice.{if◌then◌else◌}
+use Rattle.std.specs.Prelude.{if◌then◌else◌}
 use Rattle.notation.specs.ChoiceLaws.{both_true}
 use Rattle.sizes.specs.Sizes.{variables, uses, is_argument, is_chunk}
 use Rattle.bit_set.specs.BitSet.{has, empty_set}

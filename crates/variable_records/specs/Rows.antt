@@ -1,6 +1,6 @@
 -- A record, rules 6.3 and 6.4, as numbers: the meaning of each code, and the table of rows.
 use Rattle.std.specs.Prelude.{ℕ, ◌+◌, ◌*◌, ◌%◌, Bool, true, false, List, eqb, get_or, set}
-use Rattle.notation.specs.Choice.{if◌then◌else◌}
+use Rattle.std.specs.Prelude.{if◌then◌else◌}
 use Rattle.sizes.specs.Sizes.{variables}
 use Rattle.forms.specs.Forms.{chunk_num}
 use Rattle.forms.specs.declared.GenContext.{GenContext}

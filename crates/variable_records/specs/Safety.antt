@@ -1,6 +1,6 @@
 -- Safety: where handing on a value has to be guarded.
 use Rattle.std.specs.Prelude.{Bool, true, false, ltb}
-use Rattle.notation.specs.Choice.{if◌then◌else◌}
+use Rattle.std.specs.Prelude.{if◌then◌else◌}
 use Rattle.forms.specs.declared.Branch.{Branch}
 use Rattle.forms.specs.Forms.{has_as_subbranch}
 use Rattle.variable_records.specs.declared.VarSafetyStatus.{VarSafetyStatus}

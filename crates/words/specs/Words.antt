@@ -1,6 +1,6 @@
 -- A field is a word exactly if it has the word's bytes, rule 2.4; and the numbers by which code tells words apart.
 use Rattle.std.specs.Prelude.{ℕ, suc, List, [], ◌∷◌, Bool, true, false, ◌&&◌, eqb}
-use Rattle.notation.specs.Choice.{if◌then◌else◌}
+use Rattle.std.specs.Prelude.{if◌then◌else◌}
 
 unfoldable pub same : List ℕ → List ℕ → Bool
 same [] [] = true
