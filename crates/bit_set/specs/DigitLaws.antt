@@ -1,6 +1,6 @@
 -- Binary digits of a word: what `has` reads of a sum of powers, a mask, a complement and a shift, and what stands below and
 -- at a count of zeros.
-use Rattle.std.specs.Prelude.{◌≡◌, refl, Bool, true, false, not, ◌&&◌, ◌||◌, ℕ, zero, suc, ◌+◌, ◌-◌, ◌*◌, ◌/◌, ◌%◌, ◌^◌, ◌<◌, eqb, ltb}
+use Rattle.std.specs.Prelude.{◌≡◌, refl, true, false, not, ◌&&◌, ◌||◌, ℕ, zero, suc, ◌+◌, ◌-◌, ◌*◌, ◌/◌, ◌%◌, ◌^◌, ◌<◌, eqb, ltb}
 use Rattle.std.proofs.Common.{sym, ap, ap₂, ◌∙◌, true≢false, mod-lt, add-zero, pow-suc, one-mul, div-one, zero-mul, arith, one-add, pow_pos, shr-shr, ne_eqb, ltb-true, ltb-false}
 use Rattle.std.proofs.lemmas.Bool.{false≢true}
 use Rattle.std.proofs.Math.Nat.{zero-div}

@@ -1,7 +1,7 @@
 -- Laws of choosing: a register at a time, and what is chosen as a plain fact.
 use Prim.Native.Nat.{ℕ, zero, suc, ◌+◌, ◌-◌, ◌≤◌, ◌<◌}
 use Rattle.std.specs.Prelude.{◌≡◌, refl, Bool, true, false, not, ◌&&◌, List, [], ◌∷◌, map, leb, length, get_or, drop}
-use Rattle.std.proofs.Common.{ap, sym, ◌∙◌, add-one, drop_of_length-le}
+use Rattle.std.proofs.Common.{ap, ◌∙◌, add-one, drop_of_length-le}
 use Rattle.std.proofs.Math.Bool.{and-true, and-false}
 use native.Mathlib.Omega.{arith}
 use Rattle.std.proofs.Math.Seq.{drop-cons}

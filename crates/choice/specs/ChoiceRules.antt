@@ -1,14 +1,13 @@
 -- The choice for a variable as plain facts: rules 8.2 and 8.3.
-use Rattle.std.specs.Prelude.{ℕ, zero, suc, ◌+◌, ◌-◌, ◌≤◌, ◌<◌, ◌≡◌, refl, Bool, true, false, List, [], ◌∷◌, ◌↔◌, eqb}
-use Rattle.std.proofs.Common.{ap, sym, subst, ◌∙◌, true≢false, arith, eqb-true}
-use Rattle.std.proofs.lemmas.Bool.{false≢true, eqb-false}
+use Rattle.std.specs.Prelude.{ℕ, zero, suc, ◌+◌, ◌-◌, ◌≤◌, ◌<◌, ◌≡◌, refl, Bool, true, false, List, ◌↔◌, eqb}
+use Rattle.std.proofs.Common.{ap, sym, subst, arith, eqb-true}
+use Rattle.std.proofs.lemmas.Bool.{eqb-false}
 use Rattle.std.specs.Prelude.{if◌then◌else◌}
 use Rattle.notation.specs.Lists.{numbers_from}
 use Rattle.sizes.specs.Sizes.{registers}
 use Rattle.allocator_state.specs.declared.Counters.{Counters}
-use Rattle.choice.specs.declared.Chosen.{Chosen}
 use Rattle.choice.specs.declared.Chosen.TheVariants.{Register, NoRegister}
-use Rattle.choice.specs.Choice.{is_free, first, registers_from, first_unused, least_free, otherwise, chosen}
+use Rattle.choice.specs.Choice.{first, registers_from, first_unused, least_free, otherwise, chosen}
 
 never : (r : ℕ) → NoRegister ≡ Register r → ⊥
 never r e = let z : ◌≡◌ {A = ℕ} 0 1 = cc in omega arith

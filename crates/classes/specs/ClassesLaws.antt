@@ -11,7 +11,6 @@ use Rattle.std.proofs.lemmas.List.{length-map}
 use Rattle.std.proofs.Math.Seq.{drop-cons}
 use Rattle.std.specs.Prelude.{if◌then◌else◌}
 use Rattle.notation.specs.ChoiceLaws.{both_true}
-use Rattle.notation.specs.Lists.{numbers_from}
 use Rattle.notation.specs.ListLaws.{length_numbers, get_or_numbers}
 use Rattle.classes.specs.Cases.{true_or_false, less_or_not, same_or_not}
 use Rattle.classes.specs.Classes.{names, pairs_of, both_names, in_names, label_of, exchanged, joined, labels_after, own_labels, labelling, all_same}

@@ -17,4 +17,4 @@ from_zero n = +ℤ_idl (neg_ℤ (pos n))
 
 -- a number that fits is what its word says
 pub read_back : {z y : ℤ} → mag z < 2 ^ 63 → z ≡ y → to_z w64 (of_z w64 z) ≡ y
-read_back fits e = to_z-of_z (record { sfits = fits }) ∙ e
+read_back fits e = to_z-of_z {w = w64} (record { sfits = fits }) ∙ e

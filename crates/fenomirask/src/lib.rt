@@ -50,8 +50,7 @@ fn number_of(answered: Answered) -> i64
 }
 
 // The answer to an event sheet.
-#[unsafe(no_mangle)]
-pub extern "C" fn fenomirask_events(sheet: &[u8], out: &mut [u8]) -> i64
+pub fn fenomirask_events(sheet: &[u8], out: &mut [u8]) -> i64
     ensures value { result ≡ number_of (answered_events sheet.now (length out.old)) }
     ensures out_after { out.new ≡ filled_events sheet.now out.old }
 {
@@ -60,8 +59,7 @@ pub extern "C" fn fenomirask_events(sheet: &[u8], out: &mut [u8]) -> i64
 }
 
 // The answer to a bundle.
-#[unsafe(no_mangle)]
-pub extern "C" fn fenomirask_bundle(sheet: &[u8], out: &mut [u8]) -> i64
+pub fn fenomirask_bundle(sheet: &[u8], out: &mut [u8]) -> i64
     ensures value { result ≡ number_of (answered_bundle sheet.now (length out.old)) }
     ensures out_after { out.new ≡ filled_bundle sheet.now out.old }
 {
@@ -70,8 +68,7 @@ pub extern "C" fn fenomirask_bundle(sheet: &[u8], out: &mut [u8]) -> i64
 }
 
 // The answer to a check sheet.
-#[unsafe(no_mangle)]
-pub extern "C" fn fenomirask_check(sheet: &[u8], out: &mut [u8]) -> i64
+pub fn fenomirask_check(sheet: &[u8], out: &mut [u8]) -> i64
     ensures { ByVerdict sheet.now (λ right.
         (result ≡ number_of (answered_check right sheet.now (length out.old)))
         × (out.new ≡ filled_check right sheet.now out.old)) }
@@ -97,8 +94,7 @@ fn step(state: State, line: &[u8], out: &mut [u8]) -> Stepped
 }
 
 // The answer to one line of an event sheet, given to a state that the host lends.
-#[unsafe(no_mangle)]
-pub extern "C" fn fenomirask_event(state: &mut State, line: &[u8], out: &mut [u8]) -> i64
+pub fn fenomirask_event(state: &mut State, line: &[u8], out: &mut [u8]) -> i64
     ensures { (result ≡ number_of (called state.old line.now (length out.old)).answered)
         × (state.new ≡ (called state.old line.now (length out.old)).state)
         × (out.new ≡ call_filled state.old line.now out.old) }
@@ -109,8 +105,7 @@ pub extern "C" fn fenomirask_event(state: &mut State, line: &[u8], out: &mut [u8
 }
 
 // A fresh clause, over whatever the host's state was.
-#[unsafe(no_mangle)]
-pub extern "C" fn fenomirask_fresh(state: &mut State)
+pub fn fenomirask_fresh(state: &mut State)
     ensures { state.new ≡ fresh_state }
 {
     let fresh = debray_allocator::fresh();
@@ -127,8 +122,7 @@ fn last(state: State, out: &mut [u8]) -> i64
 }
 
 // What a sheet ends with, of a state that the host lends and that stays as it was.
-#[unsafe(no_mangle)]
-pub extern "C" fn fenomirask_end(state: &State, out: &mut [u8]) -> i64
+pub fn fenomirask_end(state: &State, out: &mut [u8]) -> i64
     ensures { (result ≡ number_of (last_answered state.now (length out.old)))
         × (out.new ≡ last_filled state.now out.old) }
 {

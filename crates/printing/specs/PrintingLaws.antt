@@ -1,15 +1,14 @@
 -- Laws of printing: one byte, one text behind another, and what stands at each place afterwards.
 use Prim.Native.Nat.{ℕ, suc, ◌+◌, ◌-◌, ◌≤◌, ◌<◌}
-use Rattle.std.specs.Prelude.{◌≡◌, refl, List, [], ◌∷◌, ◌++◌, Bool, true, false, ◌↔◌, leb, set, take}
+use Rattle.std.specs.Prelude.{◌≡◌, refl, List, [], ◌∷◌, ◌++◌, true, false, ◌↔◌, leb, set, take}
 use Rattle.std.proofs.Math.Path.{ap}
-use Rattle.std.proofs.Common.{sym, ◌∙◌, append_assoc, add-zero, add-suc, suc-add, length-append, take-append-drop, length-set, length-drop, take_all, take-suc-set, drop-set-lt, le-leb, leb-true, leb-false}
+use Rattle.std.proofs.Common.{sym, ◌∙◌, append_assoc, add-zero, add-suc, suc-add, length-append, take-append-drop, length-set, take_all, take-suc-set, drop-set-lt, le-leb, leb-true, leb-false}
 use native.Mathlib.Omega.{arith}
-use Rattle.std.proofs.Math.ListN.{length, get_or, drop, length-take, get_or-append, get_or-eq_default}
+use Rattle.std.proofs.Math.ListN.{length, get_or, drop, length-take, get_or-append}
 use Rattle.std.proofs.lemmas.List.Edits.{sets}
 use Rattle.std.proofs.Math.Seq.{length-sets, set_out, get_or-take, get_or-drop, get_or-append-add, length-take-le}
 use Rattle.std.proofs.lemmas.List.{take-append-le}
 use Rattle.std.proofs.lemmas.Bool.{lt-leb}
-use Rattle.std.specs.Prelude.{if◌then◌else◌}
 use Rattle.printing.specs.Printing.{printed, place_after, Put}
 
 -- where the room has ended nothing is put

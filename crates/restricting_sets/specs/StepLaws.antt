@@ -2,7 +2,7 @@
 use Prim.Native.Nat.{ℕ, suc, ◌-◌, ◌^◌, ◌≤◌, ◌<◌}
 use Rattle.std.specs.Prelude.{◌≡◌, refl, Bool, true, false, not, ◌&&◌, ◌||◌, List, eqb, ltb, length}
 use Rattle.std.proofs.Math.Path.{sym, ap}
-use Rattle.std.proofs.Common.{ap₂, ◌∙◌, arith}
+use Rattle.std.proofs.Common.{◌∙◌, arith}
 use Rattle.std.proofs.Math.Bool.{and-true, and-false, or_assoc, or-false}
 use Rattle.std.specs.Int.Bits.{bit_and}
 use Rattle.std.proofs.lemmas.Nat.{and_le_l}
@@ -10,9 +10,9 @@ use Rattle.std.proofs.Math.ListN.{get_or}
 use borrow.Author.Tests.{eq-eqb, ne_eqb, eqb-true, eqb-false, lt-ltb, le-ltb}
 use Rattle.std.specs.Prelude.{if◌then◌else◌}
 use Rattle.sizes.specs.Sizes.{variables, registers}
-use Rattle.bit_set.specs.BitSet.{Set, members, has, empty_set, inserted, union}
+use Rattle.bit_set.specs.BitSet.{Set, members, has, inserted, union}
 use Rattle.bit_set.specs.DigitLaws.{has-and, has_complement}
-use Rattle.bit_set.specs.BitSetLaws.{has-empty, has-union, set-empty, set-union}
+use Rattle.bit_set.specs.BitSetLaws.{has-union, set-union}
 use Rattle.bit_set.specs.Collected.{collected}
 use Rattle.bit_set.specs.CollectedLaws.{set-collected, has-collected, collected-is, collected-same}
 use Rattle.temp_var_data.specs.Lists.{any}

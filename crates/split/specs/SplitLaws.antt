@@ -1,9 +1,8 @@
 -- Laws of parts: how the two functions that cut find them, and that the parts are those of the one way to cut.
-use Rattle.std.specs.Prelude.{ℕ, suc, ◌+◌, ◌-◌, ◌≤◌, ◌<◌, ◌≡◌, refl, List, [], ◌∷◌, ◌++◌, Bool, true, false, eqb, length, get_or, take, drop}
-use Rattle.std.proofs.Common.{zero-le, suc-le-suc, ap, sym, ◌∙◌, add-one, arith, length-drop, drop_of_length-le, drop-cons, take_all, eq-eqb, ne_eqb, eqb-true}
-use Rattle.std.proofs.lemmas.Bool.{eqb-false}
+use Rattle.std.specs.Prelude.{ℕ, suc, ◌+◌, ◌≤◌, ◌<◌, ◌≡◌, refl, List, [], ◌∷◌, true, false, eqb, length, get_or, take, drop}
+use Rattle.std.proofs.Common.{zero-le, suc-le-suc, ap, add-one, arith, length-drop, drop_of_length-le, drop-cons, eq-eqb, ne_eqb}
 use Rattle.std.specs.Prelude.{if◌then◌else◌}
-use Rattle.split.specs.Split.{before, after, split, in_front, joined}
+use Rattle.split.specs.Split.{before, after, split, in_front}
 
 -- ---- One byte at a time
 

@@ -1,11 +1,11 @@
 -- There is one way to cut: the parts put together are the list again, no part holds the mark, and parts that hold no mark
 -- are found again once they are put together.
-use Rattle.std.specs.Prelude.{ℕ, ◌≡◌, refl, List, [], ◌∷◌, ◌++◌, Bool, true, false, not, ◌&&◌, eqb, drop}
+use Rattle.std.specs.Prelude.{ℕ, ◌≡◌, refl, List, [], ◌∷◌, ◌++◌, Bool, true, false, not, ◌&&◌, eqb}
 use Rattle.std.proofs.Common.{ap, ap₂, sym, ◌∙◌, eqb-true, eq-eqb}
 use Rattle.std.proofs.lemmas.Bool.{not-true}
 use Rattle.std.specs.Prelude.{if◌then◌else◌}
 use Rattle.notation.specs.ChoiceLaws.{both_true}
-use Rattle.split.specs.Split.{before, split, in_front, joined}
+use Rattle.split.specs.Split.{split, in_front, joined}
 use Rattle.split.specs.SplitLaws.{split-some}
 
 -- the mark does not occur

@@ -42,7 +42,7 @@ module _ (k : Kinds) where
 
   pub record Counts (c : Counters) : Type 0 where
     pub argument : Counter c.arg_c
-    pub search : Counter c.temp_lb
+    pub search_start : Counter c.temp_lb
     pub slot : Counter c.perm_lb
     pub arity : c.arity ≤ registers
     pub tail : c.in_tail_position ≤ 1

@@ -31,8 +31,8 @@ pub record CountersSaid (c : Counters) : Type 0 where
 counters_said : (c : Counters) → counters_fit c ≡ true → CountersSaid c
 counters_said c e =
     let argument = both_true (is_counter c.arg_c) _ e in
-    let search = both_true (is_counter c.temp_lb) _ argument.1 in
-    let slot = both_true (is_counter c.perm_lb) _ search.1 in
+    let search_start = both_true (is_counter c.temp_lb) _ argument.1 in
+    let slot = both_true (is_counter c.perm_lb) _ search_start.1 in
     let arity = both_true (is_argument c.arity) _ slot.1 in
     let tail = both_true (leb c.in_tail_position 1) _ arity.1 in
     let records = both_true (leb c.records variables) _ tail.1 in
@@ -46,7 +46,7 @@ counters_said c e =
       counts = λ k same.
           record {
             argument = counter_of c.arg_c argument.0;
-            search = counter_of c.temp_lb search.0;
+            search_start = counter_of c.temp_lb search_start.0;
             slot = counter_of c.perm_lb slot.0;
             arity = leb-true _ _ arity.0;
             tail = leb-true _ _ tail.0;

@@ -212,7 +212,7 @@ module _ (k : Kinds) (chunk v : ℕ) (small : chunk ≤ chunks) (known : v < k.c
           counted =
               record {
                 argument = n.argument;
-                search = n.search;
+                search_start = n.search_start;
                 slot = n.slot;
                 arity = n.arity;
                 tail = n.tail;

@@ -152,7 +152,7 @@ grown_valid {k} {c} {records} h variable room fits =
       counted =
           record {
             argument = n.argument;
-            search = n.search;
+            search_start = n.search_start;
             slot = n.slot;
             arity = n.arity;
             tail = n.tail;

@@ -81,11 +81,11 @@ module _ (k : Kinds) where
   chosen_placed c n use_set avoided good =
       otherwise_placed (first_unused c use_set) (least_free c avoided)
       (first_placed (λ r. not (in_use c r)) (map register_of use_set) (all_map Placed register_of use_set good))
-      (search_placed (is_free c avoided) c.temp_lb n.search.some)
+      (search_placed (is_free c avoided) c.temp_lb n.search_start.some)
 
   pub outside_placed : (c : Counters) → Counts k c → PlacedChoice (least_outside c)
   unfolding least_outside
-  outside_placed c n = search_placed (λ r. not (has c.in_use r)) c.temp_lb n.search.some
+  outside_placed c n = search_placed (λ r. not (has c.in_use r)) c.temp_lb n.search_start.some
 
 -- the tables that an evacuation leaves alone
 module _ (k : Kinds) (queue freed rows branch_sets : List ℕ) where

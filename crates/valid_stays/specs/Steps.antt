@@ -61,7 +61,7 @@ module _ (k : Kinds) {c : Counters} {records mappings queue freed rows sets : Li
       with_counts (with_arg_c m c)
       (record {
         argument = fits;
-        search = n.search;
+        search_start = n.search_start;
         slot = n.slot;
         arity = n.arity;
         tail = n.tail;
@@ -81,7 +81,7 @@ module _ (k : Kinds) {c : Counters} {records mappings queue freed rows sets : Li
       with_counts (with_temp_lb m c)
       (record {
         argument = n.argument;
-        search = fits;
+        search_start = fits;
         slot = n.slot;
         arity = n.arity;
         tail = n.tail;
@@ -101,7 +101,7 @@ module _ (k : Kinds) {c : Counters} {records mappings queue freed rows sets : Li
       with_counts (with_perm_lb m c)
       (record {
         argument = n.argument;
-        search = n.search;
+        search_start = n.search_start;
         slot = fits;
         arity = n.arity;
         tail = n.tail;
@@ -121,7 +121,7 @@ module _ (k : Kinds) {c : Counters} {records mappings queue freed rows sets : Li
       with_counts (with_arity m c)
       (record {
         argument = n.argument;
-        search = n.search;
+        search_start = n.search_start;
         slot = n.slot;
         arity = fits;
         tail = n.tail;
@@ -141,7 +141,7 @@ module _ (k : Kinds) {c : Counters} {records mappings queue freed rows sets : Li
       with_counts (with_in_tail_position m c)
       (record {
         argument = n.argument;
-        search = n.search;
+        search_start = n.search_start;
         slot = n.slot;
         arity = n.arity;
         tail = fits;
@@ -161,7 +161,7 @@ module _ (k : Kinds) {c : Counters} {records mappings queue freed rows sets : Li
       with_counts (with_events_seen 1 c)
       (record {
         argument = n.argument;
-        search = n.search;
+        search_start = n.search_start;
         slot = n.slot;
         arity = n.arity;
         tail = n.tail;
@@ -181,7 +181,7 @@ module _ (k : Kinds) {c : Counters} {records mappings queue freed rows sets : Li
       with_counts (with_in_use m c)
       (record {
         argument = n.argument;
-        search = n.search;
+        search_start = n.search_start;
         slot = n.slot;
         arity = n.arity;
         tail = n.tail;
@@ -201,7 +201,7 @@ module _ (k : Kinds) {c : Counters} {records mappings queue freed rows sets : Li
       with_counts (with_freed_registers left c)
       (record {
         argument = n.argument;
-        search = n.search;
+        search_start = n.search_start;
         slot = n.slot;
         arity = n.arity;
         tail = n.tail;
@@ -221,7 +221,7 @@ module _ (k : Kinds) {c : Counters} {records mappings queue freed rows sets : Li
       with_counts (without_front c dropped)
       (record {
         argument = n.argument;
-        search = n.search;
+        search_start = n.search_start;
         slot = n.slot;
         arity = n.arity;
         tail = n.tail;
@@ -247,7 +247,7 @@ module _ (k : Kinds) {c : Counters} {records mappings queue freed rows sets : Li
       record {
         counted = record {
           argument = n.argument;
-          search = n.search;
+          search_start = n.search_start;
           slot = n.slot;
           arity = n.arity;
           tail = n.tail;
@@ -275,7 +275,7 @@ module _ (k : Kinds) {c : Counters} {records mappings queue freed rows sets : Li
       record {
         counted = record {
           argument = n.argument;
-          search = n.search;
+          search_start = n.search_start;
           slot = n.slot;
           arity = n.arity;
           tail = n.tail;

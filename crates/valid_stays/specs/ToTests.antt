@@ -22,8 +22,8 @@ counters_fit_lem k c n =
     simp (
       le-leb _ _ n.argument.some,
       le-leb _ _ n.argument.last,
-      le-leb _ _ n.search.some,
-      le-leb _ _ n.search.last,
+      le-leb _ _ n.search_start.some,
+      le-leb _ _ n.search_start.last,
       le-leb _ _ n.slot.some,
       le-leb _ _ n.slot.last,
       le-leb _ _ n.arity,

@@ -1,6 +1,6 @@
 -- Laws of words: the comparison a byte at a time, and that it holds exactly of equal lists.
-use Rattle.std.specs.Prelude.{ℕ, suc, ◌≤◌, ◌<◌, ◌≡◌, refl, List, [], ◌∷◌, Bool, true, false, ◌&&◌, ◌↔◌, eqb, length, get_or, drop}
-use Rattle.std.proofs.Common.{ap₂, sym, subst, ◌∙◌, true≢false, arith, eq-eqb, ne_eqb, eqb-true}
+use Rattle.std.specs.Prelude.{ℕ, suc, ◌≤◌, ◌<◌, ◌≡◌, refl, List, [], ◌∷◌, true, false, ◌&&◌, ◌↔◌, eqb, length, get_or, drop}
+use Rattle.std.proofs.Common.{ap₂, subst, arith, eq-eqb, ne_eqb, eqb-true}
 use Rattle.std.proofs.lemmas.Bool.{false≢true}
 use Rattle.std.proofs.Math.ListN.{drop_of_length-le}
 use Rattle.std.proofs.Math.Seq.{drop-cons}

@@ -1,13 +1,11 @@
 -- `choice::first_unused`: the first from entry i on is the first of all. The measure is what is left of the use set.
 -- Assumes nothing.
-use Prim.Native.Nat.{◌-◌}
 use mathlib.Core.Path.{ap, sym, ◌∙◌}
 use mathlib.Core.Bool.{not}
 use native.Mathlib.Omega.{arith}
 use borrow.Author.Rules.{rules}
-use Rattle.temp_var_data.specs.Uses.{register_of}
 use Rattle.choice.specs.declared.Chosen.TheVariants.{Register}
-use Rattle.choice.specs.Choice.{in_use, first, first_unused}
+use Rattle.choice.specs.Choice.{in_use, first_unused}
 use Rattle.choice.specs.ChoiceLaws.{first_hit, first-miss, first-end}
 use Rattle.choice.proofs.first_unused.Goals as goal
 

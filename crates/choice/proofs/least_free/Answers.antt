@@ -1,8 +1,7 @@
 -- `choice::least_free`: the least from r on is the least of all. The measure is what is left of the registers.
 -- Assumes nothing.
-use Prim.Native.Nat.{◌-◌}
 use mathlib.Core.Path.{refl, sym, ◌∙◌}
-use Rattle.choice.specs.Choice.{is_free, least_free}
+use Rattle.choice.specs.Choice.{least_free}
 use Rattle.choice.specs.ChoiceLaws.{least_hit, least_miss, least_end}
 use Rattle.choice.proofs.least_free.Goals as goal
 

@@ -1,6 +1,5 @@
 -- `classes::all_same`: the pairs that are left have one label each exactly if all have. The measure is what is left of the pairs.
 -- Assumes nothing.
-use Prim.Native.Nat.{◌-◌}
 use mathlib.Core.Path.{sym, ◌∙◌}
 use native.Mathlib.Omega.{arith}
 use Rattle.classes.specs.ClassesLaws.{same_apart, same_on, same-done}

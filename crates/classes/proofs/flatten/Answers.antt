@@ -1,5 +1,4 @@
 -- `classes::flatten`: the names passed have their labels for parents. The measure is how many are left. Assumes nothing.
-use Prim.Native.Nat.{◌-◌}
 use native.Mathlib.Numerals.{add-one}
 use native.Mathlib.Omega.{arith}
 use Rattle.classes.specs.ParentsLaws.{passed_start, passed_next, passed_end}

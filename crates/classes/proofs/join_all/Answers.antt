@@ -1,6 +1,5 @@
 -- `classes::join_all`: the pairs that are left lead from the labels now to the labels after all. The measure is what is left
 -- of the pairs. Assumes nothing.
-use Prim.Native.Nat.{◌-◌}
 use native.Mathlib.Omega.{arith}
 use Rattle.classes.specs.ClassesLaws.{pairs_next, pairs_end}
 use Rattle.classes.specs.ParentsLaws.{toward_start, toward_next, toward_end}

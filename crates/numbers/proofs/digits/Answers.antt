@@ -1,6 +1,5 @@
 -- `numbers::digits`: the digits that are left, after those of the value so far, say what the whole says.
 -- The measure is what is left of the field. Assumes nothing.
-use Prim.Native.Nat.{◌-◌}
 use mathlib.Core.Path.{sym, ◌∙◌}
 use native.Mathlib.Numerals.{add-one}
 use native.Mathlib.Omega.{arith}

@@ -1,8 +1,6 @@
 -- `printing::put_word`: the bytes passed have been put. The measure is what is left of the word. Assumes nothing.
-use Prim.Native.Nat.{◌-◌}
 use native.Mathlib.Numerals.{add-one}
 use native.Mathlib.Omega.{arith}
-use lib.ListN.{take}
 use lib.Seq.{take_all, take-suc}
 use Rattle.printing.specs.PrintingLaws.{put-nothing, put_past, put_then, put-length}
 use Rattle.printing.proofs.put_word.Goals as goal

@@ -1,6 +1,5 @@
 -- `restricting_sets::conflict_of`: a temporary's set is made, another's kept. Assumes nothing.
 use mathlib.Core.Path.{sym, ◌∙◌}
-use borrow.Author.Tests.{not-true, not-false}
 use Rattle.restricting_sets.specs.StepLaws.{conflict_kept, conflict_made}
 use Rattle.restricting_sets.proofs.conflict_of.Goals as goal
 

@@ -1,6 +1,5 @@
 -- `restricting_sets::last_uses`: the registers of the uses passed are there. The measure is what is left of the use set.
 -- Assumes nothing.
-use Prim.Native.Nat.{◌-◌}
 use mathlib.Core.Path.{ap, ◌∙◌}
 use native.Mathlib.Numerals.{add-one}
 use Rattle.temp_var_data.specs.GivenLaws.{given_none}

@@ -1,10 +1,8 @@
 -- `restricting_sets::no_use_of`: the uses of the variables passed have been heeded. The measure is how many variables are left.
 -- Assumes nothing.
-use Prim.Native.Nat.{◌-◌}
 use mathlib.Core.Path.{sym, ap, ap₂, ◌∙◌}
 use native.Mathlib.Numerals.{add-one}
 use native.Mathlib.Omega.{arith}
-use borrow.Author.Tests.{not-true, not-false}
 use Rattle.restricting_sets.specs.StepLaws.{last_uses, with_last, below_none, below_permanent, below-temporary}
 use Rattle.restricting_sets.specs.StepLaws.{below_all, no_use-kept}
 use Rattle.restricting_sets.proofs.no_use_of.Goals.{then-is_temporary, else-is_temporary}

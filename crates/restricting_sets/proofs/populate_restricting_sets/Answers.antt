@@ -1,10 +1,8 @@
 -- `restricting_sets::populate_restricting_sets`: the rows passed are made, in both tables. The measure is how many are left.
 -- Assumes nothing.
-use Prim.Native.Nat.{◌-◌}
 use mathlib.Core.Path.{◌≡◌, ◌∙◌}
 use native.Mathlib.Omega.{arith}
 use Rattle.sizes.specs.Sizes.{variables}
-use Rattle.restricting_sets.specs.Restricting.{no_use_of}
 use Rattle.restricting_sets.specs.AnewLaws.{anew_none, anew_next, anew_end}
 use Rattle.restricting_sets.proofs.populate_restricting_sets.Goals as goal
 

@@ -1,12 +1,10 @@
 -- `split::end_of`: the bytes passed, with those before the first mark from here on, are those before it in the whole.
 -- The measure is what is left of the bytes. Assumes nothing.
-use Prim.Native.Nat.{◌-◌}
 use mathlib.Core.Path.{ap}
 use native.Mathlib.Omega.{arith}
 use native.Mathlib.Numerals.{add-one}
 use borrow.Author.Rules.{rules}
 use lib.ListN.{length, drop, length-drop}
-use Rattle.split.specs.Split.{before}
 use Rattle.split.specs.SplitLaws.{before_hit, before-miss, before_le}
 use Rattle.split.proofs.end_of.Goals as goal
 

@@ -1,6 +1,5 @@
 -- `temp_var_data::contains_use`: whether the use is among the entries from here on is whether it is among all.
 -- The measure is what is left of the use set. Assumes nothing.
-use Prim.Native.Nat.{◌-◌}
 use mathlib.Core.Path.{refl, sym, ap, ◌∙◌}
 use native.Mathlib.Numerals.{add-one}
 use borrow.Author.Tests.{eq-eqb, ne_eqb}

@@ -1,6 +1,5 @@
 -- `temp_var_data::populate_conflict_set`: the registers of the uses passed have been removed.
 -- The measure is what is left of the use set. Assumes nothing.
-use Prim.Native.Nat.{◌-◌}
 use mathlib.Core.Path.{ap, ap₂, ◌∙◌}
 use native.Mathlib.Numerals.{add-one}
 use native.Mathlib.Omega.{arith}

@@ -1,9 +1,8 @@
 -- `temp_var_data::up_to`: the numbers below the one at hand have been inserted. The measure is how many are left. Assumes nothing.
-use Prim.Native.Nat.{ℕ, ◌-◌}
+use Prim.Native.Nat.{ℕ}
 use mathlib.Core.Path.{ap, ◌∙◌}
 use native.Mathlib.Omega.{arith}
 use Rattle.bit_set.specs.BitSet.{inserted}
-use Rattle.temp_var_data.specs.Uses.{up_to}
 use Rattle.temp_var_data.specs.ConflictLaws.{up_to_start, up_to-next, up_to-end}
 use Rattle.temp_var_data.proofs.up_to.Goals as goal
 

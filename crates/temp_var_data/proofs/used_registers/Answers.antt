@@ -1,12 +1,11 @@
 -- `temp_var_data::used_registers`: the registers of the uses passed have been inserted.
 -- The measure is what is left of the use set. Assumes nothing.
-use Prim.Native.Nat.{◌-◌}
 use mathlib.Core.Path.{refl, ap, ap₂, ◌∙◌}
 use mathlib.Core.Bool.{true}
 use native.Mathlib.Numerals.{add-one}
 use Rattle.bit_set.specs.BitSet.{inserted}
 use Rattle.bit_set.specs.Collected.{collected}
-use Rattle.temp_var_data.specs.Uses.{register_of, uses_register}
+use Rattle.temp_var_data.specs.Uses.{uses_register}
 use Rattle.temp_var_data.specs.GivenLaws.{given_none, given_next, given_all}
 use Rattle.temp_var_data.proofs.used_registers.Invariants.{has-register}
 use Rattle.temp_var_data.proofs.used_registers.Goals as goal

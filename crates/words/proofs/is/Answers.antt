@@ -1,10 +1,8 @@
 -- `words::is`: what is left of the two is the same exactly if the whole is. The measure is what is left of the field.
 -- Assumes nothing.
-use Prim.Native.Nat.{◌-◌}
 use mathlib.Core.Path.{sym, ◌∙◌}
 use native.Mathlib.Numerals.{add-one}
 use native.Mathlib.Omega.{arith}
-use Rattle.words.specs.Words.{same}
 use Rattle.words.specs.WordsLaws.{same_length, same_apart, same_on, same-done}
 use Rattle.words.proofs.is.Goals as goal
 
