@@ -1,5 +1,5 @@
 -- What `open`, `arm`, `take` and `close` do to the open branches and to the records, and how an occurrence is recorded.
-use Rattle.std.specs.Prelude.{ℕ, ◌+◌, ◌-◌, Bool, true, false, not, ◌||◌, List, [], ◌∷◌, eqb, leb, ltb, length}
+use Rattle.std.specs.Prelude.{ℕ, ◌+◌, ◌-◌, Bool, false, not, ◌||◌, List, [], ◌∷◌, eqb, leb, ltb, length}
 use Rattle.std.specs.Prelude.{if◌then◌else◌}
 use Rattle.sizes.specs.Sizes.{open_branches, counts}
 use Rattle.refusals.specs.Refusals.{accepted, refused_stop, refused_full, refused_unreachable}

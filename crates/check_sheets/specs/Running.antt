@@ -7,7 +7,7 @@ use Rattle.split.specs.Split.{line_feed, before, split}
 use Rattle.steps.specs.declared.Order.{Order}
 use Rattle.steps.specs.declared.CheckLine.{CheckLine}
 use Rattle.steps.specs.Order.{fresh_order, refusal_at_end}
-use Rattle.steps.specs.SumsLaws.{Sums}
+use Rattle.steps.specs.Sums.{Sums}
 use Rattle.check_lines.specs.declared.Line.{Line}
 use Rattle.check_lines.specs.declared.Line.TheVariants.{Malformed, Says}
 use Rattle.check_lines.specs.CheckLines.{line_says}

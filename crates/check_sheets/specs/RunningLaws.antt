@@ -18,7 +18,8 @@ use Rattle.steps.specs.declared.Judged.{Judged}
 use Rattle.steps.specs.Steps.{steps_of, is_uncalled, refusal_of}
 use Rattle.steps.specs.Order.{fresh_order, judged, refusal_at_end}
 use Rattle.steps.specs.OrderLaws.{steps-kept}
-use Rattle.steps.specs.SumsLaws.{Sums, sums_none, sums_refusal, sums_accepted, sums_end}
+use Rattle.steps.specs.Sums.{Sums}
+use Rattle.steps.proofs.SumsLaws.{sums_none, sums_refusal, sums_accepted, sums_end}
 use Rattle.check_lines.specs.declared.Line.{Line}
 use Rattle.check_lines.specs.declared.Line.TheVariants.{Malformed, Says}
 use Rattle.check_lines.specs.CheckLines.{line_says}

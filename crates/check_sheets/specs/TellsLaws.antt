@@ -10,7 +10,8 @@ use Rattle.steps.specs.declared.CheckLine.{CheckLine}
 use Rattle.steps.specs.declared.Order.{Order}
 use Rattle.steps.specs.Steps.{steps_of, is_uncalled, refusal_of}
 use Rattle.steps.specs.Order.{fresh_order, judged}
-use Rattle.steps.specs.SumsLaws.{Sums, sums_none, sums_refusal, sums_accepted}
+use Rattle.steps.specs.Sums.{Sums}
+use Rattle.steps.proofs.SumsLaws.{sums_none, sums_refusal, sums_accepted}
 use Rattle.check_lines.specs.declared.Line.{Line}
 use Rattle.check_lines.specs.declared.Line.TheVariants.{Malformed, Says}
 use Rattle.check_lines.specs.CheckLines.{line_says}

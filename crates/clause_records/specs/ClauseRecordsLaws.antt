@@ -16,7 +16,7 @@ use Rattle.variable_records.specs.Rows.{record_at, temporary, is_temporary}
 use Rattle.register_sets.specs.RegisterSets.{set_at}
 use Rattle.temp_var_data.specs.Lists.{◌∈◌}
 use Rattle.temp_var_data.specs.Uses.{last_context, use_code, register_of, uses_of, UseAdded}
-use Rattle.temp_var_data.specs.ConflictLaws.{conflict_exactly}
+use Rattle.temp_var_data.proofs.ConflictLaws.{conflict_exactly}
 use Rattle.restricting_sets.specs.Restricting.{below, sets_anew, no_chunk, chunk_of, is_temporary as has_chunk, no_use_of, conflict_at, Populated}
 use Rattle.restricting_sets.specs.BelowLaws.{map-length, map_at}
 use Rattle.restricting_sets.specs.RowsLaws.{any_default}

@@ -1,5 +1,5 @@
 -- What a line of an event sheet says, and what refuses it before it is carried out.
-use Rattle.std.specs.Prelude.{ℕ, ◌+◌, Bool, true, false, ◌&&◌, ◌||◌, List, [], ◌∷◌, eqb, leb, ltb, length}
+use Rattle.std.specs.Prelude.{ℕ, Bool, true, false, ◌&&◌, ◌||◌, List, [], ◌∷◌, eqb, leb, ltb, length}
 use Rattle.std.specs.Prelude.{if◌then◌else◌}
 use Rattle.refusals.specs.Refusals.{accepted, refused_order, refused_size, refused_full}
 use Rattle.sizes.specs.Sizes.{variables, uses, registers, counters, chunks, is_register, is_argument, is_chunk, is_count}
@@ -7,7 +7,7 @@ use Rattle.forms.specs.declared.GenContext.{GenContext}
 use Rattle.forms.specs.declared.Level.{Level}
 use Rattle.forms.specs.declared.Level.TheVariants.{Root, Shallow, Deep}
 use Rattle.forms.specs.Forms.{chunk_num}
-use Rattle.temp_var_data.specs.Uses.{head_context, mid_context, last_context, use_code, context_of, register_of}
+use Rattle.temp_var_data.specs.Uses.{head_context, mid_context, last_context, context_of, register_of}
 use Rattle.allocator_state.specs.declared.Counters.{Counters}
 use Rattle.events.specs.declared.Entries.{Entries}
 use Rattle.events.specs.declared.Entries.TheVariants.{Uses, Arguments, Variables}

@@ -1,5 +1,5 @@
 pub mod Steps
 pub mod Order
 pub mod OrderLaws
-pub mod SumsLaws
 pub mod Examples
+pub mod Sums

@@ -5,4 +5,3 @@ pub mod Uses
 pub mod UsesLaws
 pub mod GivenLaws
 pub mod AddedLaws
-pub mod ConflictLaws

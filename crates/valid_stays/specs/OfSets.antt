@@ -9,7 +9,7 @@ use Rattle.register_sets.specs.RegisterSets.{set_at}
 use Rattle.temp_var_data.specs.Lists.{◌∈◌}
 use Rattle.temp_var_data.specs.TestLaws.{refuted}
 use Rattle.temp_var_data.specs.Uses.{register_of, use_code, last_context, uses_of}
-use Rattle.temp_var_data.specs.ConflictLaws.{conflict_exactly}
+use Rattle.temp_var_data.proofs.ConflictLaws.{conflict_exactly}
 use Rattle.restricting_sets.specs.Restricting.{below, sets_anew, no_chunk, chunk_of, is_temporary as has_chunk, no_use_of, conflict_at}
 use Rattle.restricting_sets.specs.BelowLaws.{map-length, map_at}
 use Rattle.restricting_sets.specs.RowsLaws.{any_default}

@@ -1,7 +1,6 @@
 -- `allocation::pop_freed`: what is popped of those left is what is popped of all. The measure is how many are left.
 -- Assumes nothing.
 use mathlib.Core.Path.{sym, ◌∙◌}
-use Rattle.allocation.specs.Allocation.{popped}
 use Rattle.allocation.specs.AllocationLaws.{popped-taken, popped_passed, popped-none}
 use Rattle.allocation.proofs.pop_freed.Goals as goal
 

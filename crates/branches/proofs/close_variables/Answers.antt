@@ -1,8 +1,6 @@
 -- `branches::close_variables`: from entry i on the list makes of the records so far what the whole list makes.
 -- The measure is what is left of the list. Assumes nothing.
-use Prim.Native.Nat.{◌-◌}
 use mathlib.Core.Path.{refl}
-use Rattle.branches.specs.Lists.{each}
 use Rattle.branches.specs.ListLaws.{each_entry, each-end}
 use Rattle.branches.proofs.close_variables.Goals as goal
 

@@ -1,6 +1,5 @@
 -- `branches::holds_temporary`: from v on the set holds a temporary if the whole set does.
 -- The measure is what is left of the variables. Assumes nothing.
-use Prim.Native.Nat.{◌-◌}
 use mathlib.Core.Path.{refl, sym, ◌∙◌}
 use borrow.Author.Rules.{rules}
 use Rattle.sizes.specs.Sizes.{variables}

@@ -1,9 +1,7 @@
 -- `branches::join_variables`: from entry i on the list makes of the set so far what the whole list makes.
 -- The measure is what is left of the list. Assumes nothing.
-use Prim.Native.Nat.{◌-◌}
 use mathlib.Core.Path.{refl}
 use Rattle.bit_set.specs.BitSet.{inserted}
-use Rattle.branches.specs.Lists.{each}
 use Rattle.branches.specs.ListLaws.{each_entry, each-end}
 use Rattle.branches.proofs.join_variables.Goals as goal
 

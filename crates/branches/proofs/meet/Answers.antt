@@ -1,10 +1,8 @@
 -- `branches::meet`: from a level on those removed make of the sets so far what all those removed make.
 -- The measure is what is left of the levels. Assumes nothing.
-use Prim.Native.Nat.{◌-◌}
 use mathlib.Core.Path.{refl, ap, ◌∙◌}
 use Rattle.bit_set.specs.BitSet.{union}
 use Rattle.branch_stack.specs.declared.BranchOccurrences.{BranchOccurrences}
-use Rattle.branches.specs.Lists.{each}
 use Rattle.branches.specs.ListLaws.{each_number, each-number-end}
 use Rattle.branches.specs.Branches.{branch_met}
 use Rattle.branches.proofs.meet.Goals as goal

@@ -1,6 +1,5 @@
 -- `branches::names_temporary`: from entry i on the list names a temporary if the whole list does.
 -- The measure is what is left of the list. Assumes nothing.
-use Prim.Native.Nat.{◌-◌}
 use mathlib.Core.Path.{refl, sym, ◌∙◌}
 use Rattle.branches.specs.BranchesLaws.{temporary_hit, temporary-miss, temporary-end}
 use Rattle.branches.proofs.names_temporary.Goals as goal

@@ -1,10 +1,8 @@
 -- `branches::pend_members`: from v on the members make of the records so far what all members make.
 -- The measure is what is left of the variables. Assumes nothing.
-use Prim.Native.Nat.{◌-◌}
 use mathlib.Core.Path.{refl}
 use borrow.Author.Rules.{rules}
 use Rattle.sizes.specs.Sizes.{variables}
-use Rattle.branches.specs.Lists.{each}
 use Rattle.branches.specs.ListLaws.{from-below, from-none, each_member, each_member_end}
 use Rattle.branches.specs.Branches.{variable_pended, pended_if_member}
 use Rattle.branches.proofs.pend_members.Goals as goal

@@ -1,11 +1,9 @@
 -- `branches::take_safety`: from v on the members make of the sets so far what all members make.
 -- The measure is what is left of the variables. Assumes nothing.
-use Prim.Native.Nat.{◌-◌}
 use mathlib.Core.Path.{refl, ap, ◌∙◌}
 use borrow.Author.Rules.{rules}
 use Rattle.sizes.specs.Sizes.{variables}
 use Rattle.branches.specs.declared.Guards.{Guards}
-use Rattle.branches.specs.Lists.{each}
 use Rattle.branches.specs.ListLaws.{from-below, from-none, each_member, each_member_end}
 use Rattle.branches.specs.Branches.{inserted_if, safety_taken}
 use Rattle.branches.specs.BranchesLaws.{shallow_if_member, deep_if_member}

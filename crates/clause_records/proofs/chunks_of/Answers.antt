@@ -1,14 +1,13 @@
 -- `clause_records::chunks_of`: the chunks of the variables passed are there. The measure is how many are left.
 -- Assumes nothing.
-use Prim.Native.Nat.{◌-◌}
 use mathlib.Core.Path.{◌∙◌}
 use native.Mathlib.Numerals.{add-one}
 use native.Mathlib.Omega.{arith}
-use lib.ListN.{length, length-replicate}
+use lib.ListN.{length-replicate}
 use Rattle.sizes.specs.Sizes.{variables}
 use Rattle.restricting_sets.specs.Restricting.{no_chunk}
 use Rattle.restricting_sets.specs.RowsLaws.{made_none, made-next, made-end}
-use Rattle.clause_records.specs.ClauseRecords.{chunk_at, chunks_of}
+use Rattle.clause_records.specs.ClauseRecords.{chunks_of}
 use Rattle.clause_records.proofs.chunks_of.Goals as goal
 
 pub loop-v-init : goal.loop-v-init

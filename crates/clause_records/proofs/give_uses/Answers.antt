@@ -1,8 +1,6 @@
 -- `clause_records::give_uses`: from entry i on the list makes of the use sets so far what the whole list makes.
 -- The measure is what is left of the list. Assumes nothing.
-use Prim.Native.Nat.{◌-◌}
 use mathlib.Core.Path.{refl}
-use Rattle.branches.specs.Lists.{each}
 use Rattle.branches.specs.ListLaws.{each_entry, each-end}
 use Rattle.clause_records.specs.ClauseRecords.{uses_given}
 use Rattle.clause_records.specs.ClauseRecordsLaws.{use_added}

@@ -5,7 +5,8 @@ use Rattle.event_lines.proofs.close_line.Goals as goal
 
 pub returns : goal.returns
 returns c =
-    let rest = c.args.rest.now in (record { value = simp (
+    let rest = c.args.rest.now in (record {
+      value = simp (
         c.closed.ensures,
         c.read_list-variables.ensures.value,
         c.read-depth.ensures,
@@ -13,5 +14,7 @@ returns c =
         c.field-field.ensures,
         c.end_of_field-end.ensures,
       )
-          (sym (close-step rest)); list_after = simp
-          (c.read_list-variables.ensures.list_after, c.rest_after-behind.ensures, c.end_of_field-end.ensures, close_list-step rest) })
+          (sym (close-step rest));
+      list_after = simp
+          (c.read_list-variables.ensures.list_after, c.rest_after-behind.ensures, c.end_of_field-end.ensures, close_list-step rest);
+    })

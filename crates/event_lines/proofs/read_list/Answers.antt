@@ -10,7 +10,6 @@ use Rattle.fields.specs.FieldsLaws.{left_none, left_some, left_shorter}
 use Rattle.printing.specs.Printing.{printed}
 use Rattle.event_fields.specs.EventFields.{entry_of}
 use Rattle.event_lines.specs.declared.Counted.TheVariants.{Of as of_count}
-use Rattle.event_lines.specs.LineForms.{leading}
 use Rattle.event_lines.specs.ReadLaws.{all_none, all_not, all_more, leading-none, leading-not, leading_more, counted_all, counted-not, put-none, put_more}
 use Rattle.event_lines.proofs.read_list.Goals as goal
 
@@ -24,9 +23,12 @@ returns-in_default c =
     let left = l.left.now in
     let some = c.loop-left-test.true in
     let part = c.field-part.ensures ∙ ap (λ (k : ℕ). take (k - 1) (drop 1 left)) c.end_of_field-end.ensures in
-    let none = sym (ap (entry_of a.entries) part) ∙ sym c.entry_of-entry.ensures ∙ c.in_default.is in (record { value = sym (counted-not _ _ (l.invariant.1 ∙ all_not a.entries a.mark left some none)); list_after = sym (put-none l.list l.count)
+    let none = sym (ap (entry_of a.entries) part) ∙ sym c.entry_of-entry.ensures ∙ c.in_default.is in (record {
+      value = sym (counted-not _ _ (l.invariant.1 ∙ all_not a.entries a.mark left some none));
+      list_after = sym (put-none l.list l.count)
           ∙ ap (printed l.list l.count) (sym (leading-not a.entries a.mark left some none))
-          ∙ l.invariant.3 })
+          ∙ l.invariant.3;
+    })
 
 pub loop-left-smaller : goal.loop-left-smaller
 loop-left-smaller c =
@@ -62,6 +64,9 @@ returns c =
     let l = c.loop-left in
     let left = l.left.now in
     let empty : length left ≡ 0 = omega arith in
-    let count : l.count ≡ length (fields_left a.mark a.rest.now) = omega (arith, ap length (left_none a.mark left empty)) in (record { value = ap of_count count ∙ sym (counted_all _ _ (l.invariant.1 ∙ all_none a.entries a.mark left empty)); list_after = sym (put-none l.list l.count)
+    let count : l.count ≡ length (fields_left a.mark a.rest.now) = omega (arith, ap length (left_none a.mark left empty)) in (record {
+      value = ap of_count count ∙ sym (counted_all _ _ (l.invariant.1 ∙ all_none a.entries a.mark left empty));
+      list_after = sym (put-none l.list l.count)
           ∙ ap (printed l.list l.count) (sym (leading-none a.entries a.mark left empty))
-          ∙ l.invariant.3 })
+          ∙ l.invariant.3;
+    })

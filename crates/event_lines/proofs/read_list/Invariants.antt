@@ -1,6 +1,6 @@
 -- `event_lines::read_list`: the entries that are left, behind those that were put, make the whole list, and have a form
 -- exactly if the whole has. The measure is what is left of the line. Assumes nothing.
-use Prim.Native.Nat.{◌+◌, ◌-◌, ◌≤◌}
+use Prim.Native.Nat.{◌+◌, ◌≤◌}
 use mathlib.Core.Path.{◌≡◌}
 use lib.ListN.{length}
 use Rattle.fields.specs.Fields.{fields_left}

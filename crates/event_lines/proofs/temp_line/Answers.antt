@@ -6,7 +6,8 @@ use Rattle.event_lines.proofs.temp_line.Goals as goal
 pub returns : goal.returns
 returns c =
     let rest = c.args.rest.now in
-    (record { value = simp (
+    (record {
+      value = simp (
         c.recorded.ensures,
         c.read_uses-uses.ensures.value,
         c.read-occurrences.ensures,
@@ -18,11 +19,13 @@ returns c =
         c.field-context_field.ensures,
         c.end_of_field-context_end.ensures,
       )
-          (sym (temp_step rest)); list_after = simp (
+          (sym (temp_step rest));
+      list_after = simp (
         c.read_uses-uses.ensures.list_after,
         c.rest_after-from_uses.ensures,
         c.end_of_field-count_end.ensures,
         c.rest_after-from_count.ensures,
         c.end_of_field-context_end.ensures,
         temp_list-step rest,
-      ) })
+      );
+    })

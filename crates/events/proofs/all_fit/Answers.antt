@@ -1,6 +1,5 @@
 -- `events::all_fit`: from entry i on all fit if all of the list do. The measure is what is left of the list.
 -- Assumes nothing.
-use Prim.Native.Nat.{◌-◌}
 use mathlib.Core.Path.{refl, sym, ◌∙◌}
 use Rattle.events.specs.EventsLaws.{fits_next, fits_not, fits-end}
 use Rattle.events.proofs.all_fit.Goals as goal

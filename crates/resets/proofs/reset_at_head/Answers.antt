@@ -1,6 +1,6 @@
 -- `resets::reset_at_head`: from argument i on the list makes of what is so far what the whole list makes.
 -- The measure is what is left of the arguments. Assumes nothing.
-use Prim.Native.Nat.{◌+◌, ◌-◌}
+use Prim.Native.Nat.{◌+◌}
 use mathlib.Core.Path.{refl, ◌∙◌}
 use native.Mathlib.Omega.{arith}
 use Rattle.resets.specs.Resets.{head_reset}

@@ -1,9 +1,8 @@
 -- `symbolic::claim`: what is left of the arguments gives, from here on, what all of them give from the start.
 -- The measure is how many cells are left. Assumes nothing.
-use Prim.Native.Nat.{◌-◌}
 use mathlib.Core.Path.{refl, sym, ◌∙◌}
 use native.Mathlib.Omega.{arith}
-use Rattle.symbolic.specs.Symbolic.{pairs, claimed}
+use Rattle.symbolic.specs.Symbolic.{pairs}
 use Rattle.symbolic.specs.TablesLaws.{claimed_more, claimed-end}
 use Rattle.symbolic.proofs.claim.Goals as goal
 

@@ -1,5 +1,4 @@
 -- `symbolic::fill_places`: the places passed hold their own names. The measure is how many are left. Assumes nothing.
-use Prim.Native.Nat.{◌-◌}
 use mathlib.Core.Path.{◌≡◌, refl, ap, ◌∙◌}
 use native.Mathlib.Omega.{arith}
 use borrow.Author.Rules.{rules}

@@ -7,7 +7,7 @@ use lib.ListN.{length}
 use Rattle.bit_set.specs.BitSet.{removed}
 use Rattle.temp_var_data.specs.Uses.{conflict_of}
 use Rattle.temp_var_data.specs.UsesLaws.{uses_le}
-use Rattle.temp_var_data.specs.ConflictLaws.{without-none, without-next, without_all}
+use Rattle.temp_var_data.proofs.ConflictLaws.{without-none, without-next, without_all}
 use Rattle.temp_var_data.proofs.populate_conflict_set.Goals as goal
 
 pub overflow_cast-use_set : goal.overflow_cast-use_set

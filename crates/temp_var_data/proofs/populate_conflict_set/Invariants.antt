@@ -3,7 +3,7 @@
 use Prim.Native.Nat.{◌-◌}
 use mathlib.Core.Path.{◌≡◌}
 use lib.ListN.{length}
-use Rattle.temp_var_data.specs.ConflictLaws.{without_first}
+use Rattle.temp_var_data.proofs.ConflictLaws.{without_first}
 use Rattle.temp_var_data.proofs.populate_conflict_set.Given as goal
 
 abbrev pub invariant-loop-i : goal.invariant-loop-i

@@ -3,7 +3,7 @@ use Prim.Native.Nat.{ℕ}
 use mathlib.Core.Path.{ap, ◌∙◌}
 use native.Mathlib.Omega.{arith}
 use Rattle.bit_set.specs.BitSet.{inserted}
-use Rattle.temp_var_data.specs.ConflictLaws.{up_to_start, up_to-next, up_to-end}
+use Rattle.temp_var_data.proofs.ConflictLaws.{up_to_start, up_to-next, up_to-end}
 use Rattle.temp_var_data.proofs.up_to.Goals as goal
 
 pub loop-n-init : goal.loop-n-init

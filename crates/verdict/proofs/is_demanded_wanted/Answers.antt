@@ -1,5 +1,4 @@
 -- `verdict::is_demanded_wanted`: the labels of the pairs wanted, asked for the pairs demanded. Assumes nothing.
-use Rattle.verdict.proofs.is_demanded_wanted.Reads as reads
 use Rattle.verdict.proofs.is_demanded_wanted.Goals as goal
 
 pub returns : goal.returns

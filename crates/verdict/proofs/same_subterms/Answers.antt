@@ -1,6 +1,5 @@
 -- `verdict::same_subterms`: what is left of the two lists agrees exactly if the whole does. The measure is what is left of
 -- the subterms made. Assumes nothing.
-use Prim.Native.Nat.{◌-◌}
 use mathlib.Core.Path.{sym, ◌∙◌}
 use native.Mathlib.Omega.{arith}
 use Rattle.verdict.specs.SubtermsLaws.{due_ended, made-ended, steps_differ, names_differ, both_agree}

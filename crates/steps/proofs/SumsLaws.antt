@@ -1,4 +1,4 @@
--- An order sums up the lines so far: it says of the next line what they say of it.
+-- Laws of an order that sums up the lines so far: it says of the next line what they say of it.
 use Rattle.std.specs.Prelude.{ℕ, ◌≡◌, true, false, ◌&&◌, ◌||◌, List, [], ◌∷◌, leb, length}
 use Rattle.std.proofs.Math.Path.{refl, ap, ap₂, sym}
 use Rattle.std.proofs.Common.{◌∙◌, arith, leb-false, ne_eqb}
@@ -17,20 +17,7 @@ use Rattle.steps.specs.declared.Order.{Order}
 use Rattle.steps.specs.Steps.{steps_of, instructions_of, takes_number, past_head, in_goal, misplaced, number_taken, is_out_of_order, is_uncalled, fits, is_full, first_of, refusal_of}
 use Rattle.steps.specs.Order.{no_step, goal_step, kind_of, misplaced_under, breaks_order, overfills, refusal_by, fresh_order, goal_after, following, judged, refusal_at_end}
 use Rattle.steps.specs.OrderLaws.{none_refuses, judged_refusal, accepted_order, argument_and_variable_lem}
-
-abbrev last_kind : List Step → ℕ
-last_kind [] = no_step
-last_kind (step ∷ earlier) = kind_of step
-
-pub record Sums (order : Order) (earlier : List CheckLine) : Type 0 where
-  pub steps : order.steps ≡ length (steps_of earlier)
-  pub kind : order.kind ≡ last_kind (steps_of earlier)
-  pub instructions : order.instructions ≡ length (instructions_of earlier)
-  pub taken : order.number_taken ≡ number_taken (instructions_of earlier)
-  pub goal : (k : ℕ) → has order.goal k ≡ in_goal k (steps_of earlier)
-  -- of lines that were accepted the last step shows whether the head is past, and whether a `call` is missing
-  pub past : leb goal_step order.kind ≡ past_head (steps_of earlier)
-  pub uncalled : eqb order.kind goal_step ≡ is_uncalled (steps_of earlier)
+use Rattle.steps.specs.Sums.{last_kind, Sums}
 
 -- ---- What it says of the next line, and of the end
 
