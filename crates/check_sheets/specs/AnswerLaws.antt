@@ -4,7 +4,6 @@ use Rattle.std.proofs.Common.{ap, sym, ◌∙◌, arith, zero-add, take_all}
 use Rattle.std.proofs.lemmas.Bool.{false≢true}
 use Rattle.std.proofs.Math.ListN.{drop, length-append, length-drop}
 use borrow.Author.Tests.{lt-ltb, le-ltb, le-leb}
-use Rattle.notation.specs.Text.{bytes}
 use Rattle.refusals.specs.Refusals.{refused_full, refused_room}
 use Rattle.sizes.specs.Sizes.{sheet_bytes}
 use Rattle.printing.specs.Printing.{printed, place_after, Put}

@@ -1,5 +1,5 @@
 -- Laws of an order that sums up the lines so far: it says of the next line what they say of it.
-use Rattle.std.specs.Prelude.{ℕ, ◌≡◌, true, false, ◌&&◌, ◌||◌, List, [], ◌∷◌, leb, length}
+use Rattle.std.specs.Prelude.{ℕ, ◌≡◌, true, false, ◌&&◌, ◌||◌, List, [], ◌∷◌, leb}
 use Rattle.std.proofs.Math.Path.{refl, ap, ap₂, sym}
 use Rattle.std.proofs.Common.{◌∙◌, arith, leb-false, ne_eqb}
 use Rattle.std.proofs.Math.Dec.{eqb}
@@ -15,7 +15,7 @@ use Rattle.steps.specs.declared.CheckLine.{CheckLine}
 use Rattle.steps.specs.declared.CheckLine.TheVariants.{Begins, Does}
 use Rattle.steps.specs.declared.Order.{Order}
 use Rattle.steps.specs.Steps.{steps_of, instructions_of, takes_number, past_head, in_goal, misplaced, number_taken, is_out_of_order, is_uncalled, fits, is_full, first_of, refusal_of}
-use Rattle.steps.specs.Order.{no_step, goal_step, kind_of, misplaced_under, breaks_order, overfills, refusal_by, fresh_order, goal_after, following, judged, refusal_at_end}
+use Rattle.steps.specs.Order.{goal_step, kind_of, misplaced_under, breaks_order, overfills, refusal_by, fresh_order, goal_after, following, judged, refusal_at_end}
 use Rattle.steps.specs.OrderLaws.{none_refuses, judged_refusal, accepted_order, argument_and_variable_lem}
 use Rattle.steps.specs.Sums.{last_kind, Sums}
 

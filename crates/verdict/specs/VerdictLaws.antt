@@ -11,8 +11,8 @@ use Rattle.steps.specs.Order.{fresh_order}
 use Rattle.machine.specs.Right.{Right}
 use Rattle.symbolic.specs.Symbolic.{Symbols, listed, all_accepted}
 use Rattle.on_names.specs.OnNames.{symbols_of, named, RightOnNames}
-use Rattle.on_names.specs.StandsLaws.{sheet_labelled}
-use Rattle.on_names.specs.NamesLaws.{claims_hold, right_on_names}
+use Rattle.on_names.proofs.StandsLaws.{sheet_labelled}
+use Rattle.on_names.proofs.NamesLaws.{claims_hold, right_on_names}
 use Rattle.verdict.specs.Verdict.{same_subterms, decided_by, decided}
 
 -- ---- Subterms

@@ -2,7 +2,7 @@
 use Prim.Native.Nat.{ℕ}
 use mathlib.Core.Path.{sym, ap, ◌∙◌}
 use lib.ListN.{drop}
-use Rattle.check_lines.specs.CheckLinesLaws.{behind, NextIsLast, said_none, said_one, said_two, said_more}
+use Rattle.check_lines.proofs.CheckLinesLaws.{behind, NextIsLast, said_none, said_one, said_two, said_more}
 use Rattle.check_lines.proofs.line_of.Goals as goal
 
 pub returns-then-rest-eq0 : goal.returns-then-rest-eq0

@@ -1,6 +1,6 @@
 -- `check_lines::read_line`: the word and what is left behind it are the line's fields. Assumes nothing.
 use mathlib.Core.Path.{sym}
-use Rattle.check_lines.specs.CheckLinesLaws.{line_step_lem}
+use Rattle.check_lines.proofs.CheckLinesLaws.{line_step_lem}
 use Rattle.check_lines.proofs.read_line.Goals as goal
 
 pub returns : goal.returns

@@ -1,6 +1,6 @@
 -- `check_lines::two_fields_lem`: each way of the code is a case of the definition. Assumes nothing.
 use mathlib.Core.Path.{sym}
-use Rattle.check_lines.specs.ReadingLaws.{by-none}
+use Rattle.check_lines.proofs.ReadingLaws.{by-none}
 use Rattle.check_lines.proofs.two_fields.Goals as goal
 
 pub returns-in-Number : goal.returns-in-Number

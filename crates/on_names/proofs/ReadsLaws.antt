@@ -13,7 +13,7 @@ use Rattle.symbolic.specs.Names.{pair_cells}
 use Rattle.symbolic.specs.Symbolic.{Pairs, pairs, pushed, listed, held, claimed}
 use Rattle.on_names.specs.OnNames.{first, second}
 use Rattle.on_names.specs.PairsLaws.{map-append, snoc_map, Table, table_more, table_exact, table_none, listed-pushed, table-pushed}
-use Rattle.on_names.specs.ActsLaws.{Places}
+use Rattle.on_names.proofs.ActsLaws.{Places}
 
 -- ---- The arguments of a goal
 

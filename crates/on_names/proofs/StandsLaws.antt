@@ -31,9 +31,9 @@ use Rattle.symbolic.specs.Symbolic.{listed, doing, spoilt_at, Symbols, wanted, c
 use Rattle.on_names.specs.OnNames.{both, named, first, second, symbols_of}
 use Rattle.on_names.specs.ChoiceLaws.{Agrees, values_agree}
 use Rattle.on_names.specs.PairsLaws.{Table, table_more, table-fresh}
-use Rattle.on_names.specs.ActsLaws.{place_name_lem, Places, AllLabelled, places_spoilt, Acts, acts_more, does_stands, does_labelled}
+use Rattle.on_names.proofs.ActsLaws.{place_name_lem, Places, AllLabelled, places_spoilt, Acts, acts_more, does_stands, does_labelled}
 use Rattle.on_names.specs.AsksLaws.{value_stands, Asks, offers, wants_stands}
-use Rattle.on_names.specs.ReadsLaws.{register, Reads, reads_same, reads_argument, reads_call}
+use Rattle.on_names.proofs.ReadsLaws.{register, Reads, reads_same, reads_argument, reads_call}
 
 -- ---- What stands between lines
 

@@ -10,7 +10,7 @@ use Rattle.fields.specs.FieldsLaws.{left_none, left_some, left_last, end_within,
 use Rattle.check_lines.specs.declared.Line.TheVariants.{Malformed}
 use Rattle.check_lines.specs.CheckLines.{fields_say, line_says}
 use Rattle.check_lines.specs.Reading.{word_code, field_of, no_field, one_field, two_fields, said_by}
-use Rattle.check_lines.specs.ReadingLaws.{by-none, word_said}
+use Rattle.check_lines.proofs.ReadingLaws.{by-none, word_said}
 
 -- the next field, and what is left behind it
 abbrev pub next : List ℕ → List ℕ

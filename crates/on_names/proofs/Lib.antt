@@ -1,0 +1,4 @@
+pub mod ActsLaws
+pub mod ReadsLaws
+pub mod StandsLaws
+pub mod NamesLaws
