@@ -9,5 +9,3 @@ pub mod LineLaws
 pub mod RulesEasilyMissed
 pub mod InstructionsMade
 pub mod MadeLaws
-pub mod MarksMadeLaws
-pub mod NothingLeftOut

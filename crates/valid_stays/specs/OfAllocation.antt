@@ -4,7 +4,7 @@ use Rattle.std.proofs.Common.{sym, subst, arith}
 use mathlib.Core.List.{List, [], ◌∷◌}
 use borrow.Author.Tests.{ltb-true, ltb-false, leb-false}
 use Rattle.notation.specs.ChoiceLaws.{either, by_test}
-use Rattle.sizes.specs.Sizes.{registers, counters, chunks, counts, freed_registers, freed_slots}
+use Rattle.sizes.specs.Sizes.{registers, chunks, counts, freed_registers, freed_slots}
 use Rattle.variable_records.specs.declared.VarSafetyStatus.TheVariants.{Needed}
 use Rattle.variable_records.specs.declared.PermVarAllocation.TheVariants.{Done, Pending}
 use Rattle.variable_records.specs.declared.VarAlloc.{VarAlloc}

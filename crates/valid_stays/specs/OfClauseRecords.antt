@@ -18,7 +18,6 @@ use Rattle.variable_records.specs.TableLaws.{record_put-same, record_put-other, 
 use Rattle.register_sets.specs.RegisterSets.{set_at, set_put}
 use Rattle.register_sets.specs.RegisterSetsLaws.{set_put-same, set_put-other, set_put-length}
 use Rattle.temp_var_data.specs.Uses.{takes_use, use_sets_with, use_counts_with}
-use Rattle.branches.specs.Lists.{each}
 use Rattle.allocator_state.specs.declared.Counters.{Counters}
 use Rattle.allocator_state.specs.Counters.{with_records}
 use Rattle.events.specs.Events.{is_use}

@@ -1,7 +1,7 @@
 -- A state whose tables fit passes the tests of a lent state.
 use Rattle.std.specs.Prelude.{ℕ, ◌+◌, ◌*◌, ◌<◌, ◌≡◌, true, not, ◌&&◌, ◌||◌, eqb, leb, get_or}
 use Rattle.std.proofs.Common.{sym, subst, ◌∙◌, ⊎_elim, arith, lt-ltb, le-leb, eq-eqb}
-use Rattle.sizes.specs.Sizes.{variables, uses, registers, counters, is_chunk, is_count}
+use Rattle.sizes.specs.Sizes.{variables, uses, registers, is_chunk, is_count}
 use Rattle.sizes.specs.SizesLaws.{register_exactly}
 use Rattle.bit_set.specs.BitSet.{has}
 use Rattle.variable_records.specs.Rows.{row_at, is_temporary}

@@ -13,10 +13,9 @@ overflow_cast-run c = search (rules, line_small _ c.requires c.run_sheet-run.ens
 pub returns-then-run-gt0 : goal.returns-then-run-gt0
 returns-then-run-gt0 c = both (
     clause_refused _ c.requires c.run_sheet-run.ensures.value _ _ c.if-run-gt0.true c.run_sheet-run.ensures.out_after c.add_refusal.ensures.value c.add_refusal.ensures.out_after
-)
+    )
 
 pub returns : goal.returns
 returns c = both (
     clause_printed _ c.requires c.run_sheet-run.ensures.value _ _ c.if-run-gt0.false c.run_sheet-run.ensures.out_after
-)
-
+    )

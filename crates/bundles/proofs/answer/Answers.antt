@@ -14,7 +14,7 @@ both w = record { value = w.0; out_after = w.1 }
 pub returns-then-refusal-gt0 : goal.returns-then-refusal-gt0
 returns-then-refusal-gt0 c = both (
     answer-before _ _ c.refusal_before-refusal.ensures c.if-refusal-gt0.true
-)
+    )
 
 pub run_clauses-run-requires : goal.run_clauses-run-requires
 run_clauses-run-requires c = let b = bundle-begins c.args.bundle.now (search (rules, c.refusal_before-refusal.ensures, c.if-refusal-gt0.false)) in record { fits_a_sheet = b.short; ends_a_line = b.ended; begins_a_clause = b.begun }
@@ -22,17 +22,17 @@ run_clauses-run-requires c = let b = bundle-begins c.args.bundle.now (search (ru
 pub returns-then-run-gt0 : goal.returns-then-run-gt0
 returns-then-run-gt0 c = both (
     answer-refused _ _ (bundle-begins c.args.bundle.now (search (rules, c.refusal_before-refusal.ensures, c.if-refusal-gt0.false))) c.run_clauses-run.ensures.value c.if-run-gt0.true
-)
+    )
 
 pub returns-then-out-length : goal.returns-then-out-length
 returns-then-out-length c = both (
     answer_longer _ _ (bundle-begins c.args.bundle.now (search (rules, c.refusal_before-refusal.ensures, c.if-refusal-gt0.false))) c.run_clauses-run.ensures.value c.if-run-gt0.false c.if-out-length.true
-)
+    )
 
 pub returns-then-length-le-SHEET_BYTES : goal.returns-then-length-le-SHEET_BYTES
 returns-then-length-le-SHEET_BYTES c = both (
     answer_copied _ _ (bundle-begins c.args.bundle.now (search (rules, c.refusal_before-refusal.ensures, c.if-refusal-gt0.false))) c.run_clauses-run.ensures.value c.if-run-gt0.false c.if-out-length.false _ (search (rules, c.if-length-le-SHEET_BYTES.true)) c.run_clauses-run.ensures.fronts c.part_before.ensures c.put_word.ensures.bytes
-)
+    )
 
 pub run_clauses-requires : goal.run_clauses-requires
 run_clauses-requires c = let b = bundle-begins c.args.bundle.now (search (rules, c.refusal_before-refusal.ensures, c.if-refusal-gt0.false)) in record { fits_a_sheet = b.short; ends_a_line = b.ended; begins_a_clause = b.begun }
@@ -41,5 +41,4 @@ pub returns : goal.returns
 returns c = both (
     let sized : c.run_clauses-run.result.length - 0 ≡ c.run_clauses-run.result.length = omega arith in
     answer-again _ _ (bundle-begins c.args.bundle.now (search (rules, c.refusal_before-refusal.ensures, c.if-refusal-gt0.false))) c.run_clauses-run.ensures.value c.if-run-gt0.false c.if-out-length.false sized c.run_clauses.ensures.value c.run_clauses.ensures.fronts refl
-)
-
+    )

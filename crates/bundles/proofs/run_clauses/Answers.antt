@@ -18,7 +18,7 @@ shape_of-out-then-not-is c = c.loop-rest.invariant.room
 pub returns-then-not-is : goal.returns-then-not-is
 returns-then-not-is c = both (
     going-refused c.loop-rest.invariant c.loop-rest-test.true c.end_of-end.ensures c.part_before.ensures (sym c.is.ensures ∙ c.if-not-is.true)
-)
+    )
 
 pub add_clause-length-requires : goal.add_clause-length-requires
 add_clause-length-requires c = omega (arith, lines_short c.loop-rest.invariant c.loop-rest-test.true c.end_of-end.ensures c.part_before.ensures (sym c.is.ensures ∙ c.if-not-is.false) c.part_after-behind.ensures c.end_of_clause-end_of_lines.ensures c.part_before-in-loop-rest.ensures refl, c.loop-rest.invariant.short)
@@ -38,5 +38,4 @@ shape_of-out c = c.loop-rest.invariant.room
 pub returns : goal.returns
 returns c = both (
     going-last c.loop-rest.invariant c.loop-rest-test.false
-)
-
+    )

@@ -11,7 +11,7 @@ both w = record { value = w.0; out_after = w.1 }
 pub returns-then-left-gt0 : goal.returns-then-left-gt0
 returns-then-left-gt0 c = both (
     told-refused _ _ _ _ _ _ c.if-left-gt0.true
-)
+    )
 
 pub overflow_add-result : goal.overflow_add-result
 overflow_add-result c =
@@ -24,5 +24,4 @@ returns c = both (
     c.max_reg_allocated-registers.ensures
     c.num_perm_vars-slots.ensures
     c.add_end-adding.ensures
-)
-
+    )

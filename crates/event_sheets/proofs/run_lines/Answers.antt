@@ -34,7 +34,7 @@ shape_of-out-then-acted-gt0 c = c.loop-end.invariant.0.room
 pub returns-then-acted-gt0 : goal.returns-then-acted-gt0
 returns-then-acted-gt0 c = both (
     going-refused c.loop-end.invariant.0 c.loop-end-test.true c.part_before.ensures c.carry_line-acted.ensures c.if-acted-gt0.true
-)
+    )
 
 pub overflow_add-length : goal.overflow_add-length
 overflow_add-length c =
@@ -70,5 +70,4 @@ shape_of-out c = ap length c.finish.ensures.out_after âˆ™ printed-length _ _ _ â
 pub returns : goal.returns
 returns c = both (
     going-last c.loop-end.invariant.0 c.loop-end-test.false c.finish.ensures.value c.finish.ensures.out_after
-)
-
+    )

@@ -1,7 +1,5 @@
 -- `valid_states::are_variables`: the members before v are variables. The measure is what is left of the numbers.
 -- Assumes nothing.
-use Prim.Native.Nat.{◌-◌}
-use mathlib.Core.Bool.{true}
 use borrow.Author.Rules.{rules}
 use Rattle.valid_states.specs.ValidStatesLaws.{below_none, below_next, below_fails, below_end}
 use Rattle.valid_states.proofs.are_variables.Goals as goal

@@ -1,8 +1,6 @@
 -- `valid_states::branches_fit`: the branches before the level fit. The measure is what is left of the stack.
 -- Assumes nothing.
-use Prim.Native.Nat.{◌-◌}
 use mathlib.Core.Path.{ap, ◌∙◌}
-use mathlib.Core.Bool.{true}
 use borrow.Author.Rules.{rules}
 use Rattle.valid_states.specs.Parts.{of_records}
 use Rattle.valid_states.specs.ValidStates.{occurrences_fit}

@@ -1,7 +1,5 @@
 -- `valid_states::freed_registers_fit`: the entries before i are registers. The measure is what is left of the list.
 -- Assumes nothing.
-use Prim.Native.Nat.{◌-◌}
-use mathlib.Core.Bool.{true}
 use borrow.Author.Rules.{rules}
 use Rattle.valid_states.specs.ValidStatesLaws.{below_none, below_next, below_fails, below_end}
 use Rattle.valid_states.proofs.freed_registers_fit.Goals as goal

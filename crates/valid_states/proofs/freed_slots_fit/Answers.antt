@@ -1,8 +1,6 @@
 -- `valid_states::freed_slots_fit`: the entries before i fit. The measure is what is left of the queue.
 -- Assumes nothing.
-use Prim.Native.Nat.{◌-◌}
 use mathlib.Core.Path.{ap, ◌∙◌}
-use mathlib.Core.Bool.{true}
 use mathlib.Core.List.{[]}
 use borrow.Author.Rules.{rules}
 use Rattle.valid_states.specs.Parts.{of_freed_slots}

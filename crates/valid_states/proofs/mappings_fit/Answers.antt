@@ -1,10 +1,7 @@
 -- `valid_states::mappings_fit`: the mappings before r fit. The measure is what is left of the registers.
 -- Assumes nothing.
-use Prim.Native.Nat.{◌-◌}
-use mathlib.Core.Bool.{true}
 use native.Mathlib.Omega.{arith}
 use borrow.Author.Rules.{rules}
-use Rattle.valid_states.specs.ValidStates.{mapping_fits}
 use Rattle.valid_states.specs.ValidStatesLaws.{below_none, below_next, below_fails, below_end}
 use Rattle.valid_states.proofs.mappings_fit.Goals as goal
 

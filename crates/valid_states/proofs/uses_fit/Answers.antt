@@ -1,10 +1,7 @@
 -- `valid_states::uses_fit`: the uses before i are uses, and what counts is at most 16. The measure is what is left to look at.
 -- Assumes nothing.
-use Prim.Native.Nat.{◌-◌}
-use mathlib.Core.Bool.{true}
 use borrow.Author.Rules.{rules}
 use borrow.Author.Tests.{le-leb, lt-leb}
-use Rattle.events.specs.Events.{is_use}
 use Rattle.valid_states.specs.ValidStatesLaws.{passed, stopped, below_none, below_next, below_fails, below_end}
 use Rattle.valid_states.proofs.uses_fit.Goals as goal
 

@@ -1,9 +1,6 @@
 -- `valid_states::variables_fit`: the variables before v fit. The measure is what is left of the variables.
 -- Assumes nothing.
-use Prim.Native.Nat.{◌-◌}
-use mathlib.Core.Bool.{true}
 use borrow.Author.Rules.{rules}
-use Rattle.valid_states.specs.ValidStates.{variable_fits}
 use Rattle.valid_states.specs.ValidStatesLaws.{below_none, below_next, below_fails, below_end}
 use Rattle.valid_states.proofs.variables_fit.Goals as goal
 

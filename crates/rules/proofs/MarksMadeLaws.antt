@@ -42,7 +42,8 @@ use Rattle.other_marks.specs.OtherMarks.{CutOf, slot_cut_by, slot_cut, register_
 use Rattle.rules.specs.StepsLaws.{either_way}
 use Rattle.rules.specs.InstructionsMade.{unless_after, placing_makes, known_makes, register_makes, new_slot_makes, new_temporary_makes, slot_makes}
 use Rattle.rules.specs.InstructionsMade.{variable_makes, var_makes, turn_makes, anon_placed_makes, anon_chosen_makes, non_var_makes, anon_makes}
-use Rattle.rules.specs.MadeLaws.{made, pushed-below_three, Behind, none-behind, behind-both, made-behind, both_ways, advanced-code}
+use Rattle.rules.specs.MadeLaws.{made, pushed-below_three, Behind}
+use Rattle.rules.proofs.BehindLaws.{none-behind, behind-both, made-behind, both_ways, advanced-code}
 use Rattle.rules.specs.MadeLaws.{evacuation_short, evacuated-behind, register-behind, level-behind}
 
 -- ---- A variable whose place is known

@@ -1,0 +1,3 @@
+pub mod BehindLaws
+pub mod MarksMadeLaws
+pub mod NothingLeftOut
