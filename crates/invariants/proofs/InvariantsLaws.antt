@@ -15,9 +15,9 @@ use Rattle.events.specs.declared.Event.{Event}
 use Rattle.debray_allocator.specs.declared.State.{State}
 use Rattle.debray_allocator.specs.State.{fresh_state}
 use Rattle.debray_allocator.specs.DebrayAllocator.{stepped}
-use Rattle.invariants.specs.Lists.{All, all_plain, all_at, all_replicate}
-use Rattle.invariants.specs.Every.{Every, every_at, every_map, record_modulo}
-use Rattle.invariants.specs.Kept.{Wanted, Kept, holds_so, holds_kind, holds_place, kept_at}
+use Rattle.invariants.specs.Lists.{all_plain, all_at, all_replicate}
+use Rattle.invariants.specs.Every.{every_at, every_map, record_modulo}
+use Rattle.invariants.specs.Kept.{Kept, holds_so, holds_kind, holds_place, kept_at}
 use Rattle.invariants.specs.OfSteps.{FitsIn, stepped-fits}
 use Rattle.invariants.specs.Invariants.{kinds_of, Fitting, PlaceFits, PlacesFit, up_to_last}
 

@@ -1,24 +1,16 @@
 -- Two facts about every event: a record stays of its kind, and places stay in their sizes.
-use Rattle.std.specs.Prelude.{ℕ, ◌+◌, ◌*◌, ◌%◌, ◌≤◌, ◌<◌, ◌≡◌, refl, List, eqb, length, replicate}
-use Rattle.std.proofs.Common.{ap, ◌∙◌, arith}
-use Rattle.std.proofs.lemmas.List.{length-replicate}
-use Rattle.notation.specs.ChoiceLaws.{either}
-use Rattle.sizes.specs.Sizes.{variables, uses, registers, freed_registers}
+use Rattle.std.specs.Prelude.{ℕ, ◌≤◌, ◌<◌, ◌≡◌}
+use Rattle.std.proofs.Common.{arith}
+use Rattle.sizes.specs.Sizes.{registers}
 use Rattle.registers.specs.Registers.{number_of_place}
-use Rattle.variable_records.specs.declared.Row.{Row}
-use Rattle.variable_records.specs.declared.VarAlloc.{VarAlloc}
 use Rattle.variable_records.specs.declared.VariableRecord.{VariableRecord}
-use Rattle.variable_records.specs.Records.{place_of, place_of_alloc}
-use Rattle.variable_records.specs.Rows.{row_cells, row_start, row_at, allocation_of, record_of, record_at, temporary, is_temporary}
+use Rattle.variable_records.specs.Records.{place_of}
+use Rattle.variable_records.specs.Rows.{is_temporary}
 use Rattle.temp_var_data.specs.Uses.{register_of}
-use Rattle.events.specs.declared.Event.{Event}
 use Rattle.debray_allocator.specs.declared.State.{State}
-use Rattle.debray_allocator.specs.State.{fresh_state}
-use Rattle.debray_allocator.specs.DebrayAllocator.{stepped}
-use Rattle.invariants.specs.Lists.{All, all_plain, all_at, all_replicate}
-use Rattle.invariants.specs.Every.{Every, every_at, every_map, record_modulo}
-use Rattle.invariants.specs.Kept.{Wanted, Kept, holds_so, holds_kind, holds_place, kept_at}
-use Rattle.invariants.specs.OfSteps.{FitsIn, stepped-fits}
+use Rattle.invariants.specs.Lists.{All}
+use Rattle.invariants.specs.Every.{Every}
+use Rattle.invariants.specs.Kept.{Wanted}
 
 -- ---- Kinds stay: rule 6.5
 

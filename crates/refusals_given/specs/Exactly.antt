@@ -32,7 +32,7 @@ use Rattle.event_calls.specs.declared.Called.{Called}
 use Rattle.event_calls.specs.EventCalls.{parts_answer, bytes_answer, called_by, called}
 use Rattle.event_calls.specs.CallLaws.{called_valid, by-refused}
 use Rattle.valid_stays.specs.Fits.{Full}
-use Rattle.valid_stays.specs.FromTests.{kinds_of, valid_small, valid_fits}
+use Rattle.valid_stays.proofs.FromTests.{kinds_of, valid_small, valid_fits}
 use Rattle.refusals_given.specs.Given.{carrying_refusals}
 use Rattle.refusals_given.specs.OfEvents.{before_given}
 use Rattle.refusals_given.specs.OfSteps.{CarryingRow, stepped_by}

@@ -31,7 +31,7 @@ use Rattle.events.specs.declared.Event.{Event}
 use Rattle.events.specs.Events.{in_size, is_full, is_record, refusal_by_size, refusal_before}
 use Rattle.invariants.specs.Lists.{All}
 use Rattle.valid_stays.specs.Fits.{Kinds, Records, Permanent, Valid}
-use Rattle.valid_stays.specs.OfBranches.{hits_permanent}
+use Rattle.valid_stays.proofs.OfBranches.{hits_permanent}
 
 -- a line that nothing refused before is not too long, and has room
 pub unrefused_not_full :

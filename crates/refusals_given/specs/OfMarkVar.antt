@@ -41,9 +41,9 @@ use Rattle.mark_var.specs.MarkVar.{Noted, noted_slot, noted, settled, Marking, f
 use Rattle.mark_var.specs.MarkVar.{VarMark, marked_at, new_temporary_after, new_temporary_marked, new_slot_after, new_slot_marked, slot_marked}
 use Rattle.mark_var.specs.MarkVar.{temporary_marked, permanent_marked, marked_by, var_marked}
 use Rattle.valid_stays.specs.Fits.{Kinds, AllocFits, Valid, Uses}
-use Rattle.valid_stays.specs.RecordsFit.{record_fits}
-use Rattle.valid_stays.specs.OfAllocation.{PlacementValid, slot_given_valid, perm_placed_valid}
-use Rattle.valid_stays.specs.OfMarkVar.{RegisterValid, register_placed_valid}
+use Rattle.valid_stays.proofs.RecordsFit.{record_fits}
+use Rattle.valid_stays.proofs.OfAllocation.{PlacementValid, slot_given_valid, perm_placed_valid}
+use Rattle.valid_stays.proofs.OfMarkVar.{RegisterValid, register_placed_valid}
 use Rattle.refusals_given.specs.OfRecordMarks.{Settled, SettledIn, settled_in, settled_at, settled-put}
 use Rattle.refusals_given.specs.OfReservedVar.{EvacuationGiven, EvacuationSettled, subterm_made_given, evacuated_given, evacuated-settled, argument_marked_given}
 

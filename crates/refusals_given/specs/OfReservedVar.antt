@@ -28,10 +28,10 @@ use Rattle.record_marks.specs.RecordMarks.{in_place, marked_safe, argument_value
 use Rattle.reserved_var.specs.ReservedVar.{SafeStep, safe_kept, remembered, safe_made_by, safe_made, Step, instructed_after, value_kept, argument_made, met, subterm_made}
 use Rattle.reserved_var.specs.ReservedVar.{others_out, advanced_by, marked_after, argument_marked}
 use Rattle.valid_stays.specs.Fits.{Kinds, Valid, Uses}
-use Rattle.valid_stays.specs.RecordsFit.{record_fits}
-use Rattle.valid_stays.specs.TablesFit.{mapped_at_lem, named-temporary}
-use Rattle.valid_stays.specs.OfEvacuation.{EvacuationValid}
-use Rattle.valid_stays.specs.OfReservedVar.{others_out_valid}
+use Rattle.valid_stays.proofs.RecordsFit.{record_fits}
+use Rattle.valid_stays.proofs.TablesFit.{mapped_at_lem, named-temporary}
+use Rattle.valid_stays.proofs.OfEvacuation.{EvacuationValid}
+use Rattle.valid_stays.proofs.OfReservedVar.{others_out_valid}
 use Rattle.refusals_given.specs.OfRecordMarks.{Settled, GoesOn, GoesSafely, argument_goes, subterm_goes, safe_goes, remembered_goes, SettledIn, settled_at, settled_placed}
 
 -- P holds of what a step is given

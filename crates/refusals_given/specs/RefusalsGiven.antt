@@ -28,8 +28,9 @@ use Rattle.event_calls.specs.EventCalls.{parts_answer, bytes_answer, called_by, 
 use Rattle.event_calls.specs.FoldLaws.{line_reachable}
 use Rattle.invariants.specs.Lists.{All}
 use Rattle.valid_stays.specs.Fits.{Full}
-use Rattle.valid_stays.specs.FromTests.{kinds_of, valid_small, valid_fits}
-use Rattle.valid_stays.specs.Reachable.{Reachable, fresh, reachable_full, reachable_valid}
+use Rattle.valid_stays.proofs.FromTests.{kinds_of, valid_small, valid_fits}
+use Rattle.valid_stays.specs.Reachable.{Reachable}
+use Rattle.valid_stays.proofs.ReachableLaws.{fresh, reachable_full, reachable_valid}
 use Rattle.refusals_given.specs.Given.{refusals_of}
 use Rattle.refusals_given.specs.OfSteps.{Row, stepped_given}
 

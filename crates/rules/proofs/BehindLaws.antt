@@ -14,8 +14,8 @@ use Rattle.instructions.specs.declared.Instruction.TheVariants.{GetVariable}
 use Rattle.targets.specs.declared.Target.{Target}
 use Rattle.targets.specs.Targets.{argument_to_variable, subterm_to_variable}
 use Rattle.code_deque.specs.declared.CodeDeque.{CodeDeque}
-use Rattle.code_deque.specs.declared.CodeDeque.TheVariants.{Empty, One, Two, Three}
-use Rattle.code_deque.specs.CodeDeque.{code_list, pushed}
+use Rattle.code_deque.specs.declared.CodeDeque.TheVariants.{Empty}
+use Rattle.code_deque.specs.CodeDeque.{code_list}
 use Rattle.forms.specs.declared.Branch.{Branch}
 use Rattle.forms.specs.declared.GenContext.{GenContext}
 use Rattle.forms.specs.declared.GenContext.TheVariants.{Head as InHead, Mid, Last}
@@ -34,7 +34,7 @@ use Rattle.evacuation.specs.Evacuation.{Sets, Evacuation, hint, moved_to, evacua
 use Rattle.record_marks.specs.declared.Valued.{Valued}
 use Rattle.record_marks.specs.declared.Valued.TheVariants.{Value, Stopped}
 use Rattle.record_marks.specs.RecordMarks.{in_place, argument_value, subterm_value}
-use Rattle.reserved_var.specs.ReservedVar.{Step, safe_made, instructed_after, value_kept, argument_made, met, subterm_made}
+use Rattle.reserved_var.specs.ReservedVar.{safe_made, instructed_after, value_kept, argument_made, met, subterm_made}
 use Rattle.reserved_var.specs.ReservedVar.{others_out, advanced_by, marked_after, argument_marked}
 use Rattle.marks.specs.Marks.{RegisterPlacement, chosen_or_refused, alloc_apart, after_evacuation, alloc_shallow, register_placed}
 use Rattle.mark_var.specs.declared.Mark.{Mark}

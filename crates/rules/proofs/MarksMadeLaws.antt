@@ -44,7 +44,7 @@ use Rattle.rules.specs.InstructionsMade.{unless_after, placing_makes, known_make
 use Rattle.rules.specs.InstructionsMade.{variable_makes, var_makes, turn_makes, anon_placed_makes, anon_chosen_makes, non_var_makes, anon_makes}
 use Rattle.rules.specs.MadeLaws.{made, pushed-below_three, Behind}
 use Rattle.rules.proofs.BehindLaws.{none-behind, behind-both, made-behind, both_ways, advanced-code}
-use Rattle.rules.specs.MadeLaws.{evacuation_short, evacuated-behind, register-behind, level-behind}
+use Rattle.rules.proofs.BehindLaws.{evacuation_short, evacuated-behind, register-behind, level-behind}
 
 -- ---- A variable whose place is known
 

@@ -25,7 +25,8 @@ use Rattle.debray_allocator.specs.DebrayAllocator.{sets_of, carried_out, acted_o
 use Rattle.rules.specs.StepsLaws.{either_way}
 use Rattle.rules.specs.LineLaws.{stepped_carries}
 use Rattle.rules.specs.InstructionsMade.{evacuation_makes, event_makes}
-use Rattle.rules.specs.MadeLaws.{made, evacuation-one, evacuated-behind, evacuated-made, others-made}
+use Rattle.rules.specs.MadeLaws.{made}
+use Rattle.rules.proofs.BehindLaws.{evacuation-one, evacuated-behind, evacuated-made, others-made}
 use Rattle.rules.proofs.MarksMadeLaws.{register-made, var_made, anon_made, non_var-made, cut_made}
 
 code_short : (code : CodeDeque) → made code ≤ 3

@@ -14,7 +14,7 @@ returns-then-not-is_valid_state c = both (
     call_invalid _ _ _
     (sym c.is_valid_state.ensures ∙ c.if-not-is_valid_state.true)
     c.refused.ensures
-)
+    )
 
 pub returns-then-line-gt-SHEET_BYTES : goal.returns-then-line-gt-SHEET_BYTES
 returns-then-line-gt-SHEET_BYTES c = both (
@@ -22,7 +22,7 @@ returns-then-line-gt-SHEET_BYTES c = both (
     (sym c.is_valid_state.ensures ∙ c.if-not-is_valid_state.false)
     c.if-line-gt-SHEET_BYTES.true
     c.refused-then-line-gt-SHEET_BYTES.ensures
-)
+    )
 
 pub step_bytes-answer-requires : goal.step_bytes-answer-requires
 step_bytes-answer-requires c = c.if-line-gt-SHEET_BYTES.false
@@ -35,7 +35,7 @@ returns-then-answer-gt0 c = both (
     c.step_bytes-answer.ensures
     c.if-answer-gt0.true
     c.refused-then-answer-gt0.ensures
-)
+    )
 
 pub returns-then-out-length : goal.returns-then-out-length
 returns-then-out-length c = both (
@@ -48,7 +48,7 @@ returns-then-out-length c = both (
     c.put_answer-length.ensures
     c.if-out-length.true
     c.refused-then-out-length.ensures
-)
+    )
 
 pub returns : goal.returns
 returns c = both (
@@ -63,5 +63,4 @@ returns c = both (
     c.part_before.ensures
     c.put_word.ensures
     refl
-)
-
+    )

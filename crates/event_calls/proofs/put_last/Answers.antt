@@ -11,7 +11,7 @@ both w = record { value = w.0; out_after = w.1 }
 pub returns-then-not-is_valid_state : goal.returns-then-not-is_valid_state
 returns-then-not-is_valid_state c = both (
     last_invalid _ _ (sym c.is_valid_state.ensures ∙ c.if-not-is_valid_state.true)
-)
+    )
 
 pub returns-then-out-count : goal.returns-then-out-count
 returns-then-out-count c = both (
@@ -22,7 +22,7 @@ returns-then-out-count c = both (
     (search rules)
     c.put_end-count.ensures
     c.if-out-count.true
-)
+    )
 
 pub returns : goal.returns
 returns c = both (
@@ -35,5 +35,4 @@ returns c = both (
     c.if-out-count.false
     c.part_before.ensures
     c.put_word.ensures
-)
-
+    )

@@ -26,11 +26,11 @@ use Rattle.record_marks.specs.RecordMarks.{in_place, marked_safe, argument_value
 use Rattle.reserved_var.specs.ReservedVar.{SafeStep, safe_kept, remembered, safe_made_by, safe_made, Step, instructed_after, value_kept, argument_made, met, subterm_made}
 use Rattle.reserved_var.specs.ReservedVar.{others_out, advanced_by, marked_after, argument_marked}
 use Rattle.valid_stays.specs.Fits.{Kinds, Valid, Uses}
-use Rattle.valid_stays.specs.RecordsFit.{record_fits}
-use Rattle.valid_stays.specs.TablesFit.{counter_after_lem, mapped_at_lem, named-temporary}
-use Rattle.valid_stays.specs.Steps.{put_valid, argument_valid}
-use Rattle.valid_stays.specs.OfEvacuation.{EvacuationValid, evacuated_valid}
-use Rattle.valid_stays.specs.OfRecordMarks.{SafeFits, ValueFits, argument_fits, subterm_fits, safe_fits, remembered-fits}
+use Rattle.valid_stays.proofs.RecordsFit.{record_fits}
+use Rattle.valid_stays.proofs.TablesFit.{counter_after_lem, mapped_at_lem, named-temporary}
+use Rattle.valid_stays.proofs.Steps.{put_valid, argument_valid}
+use Rattle.valid_stays.proofs.OfEvacuation.{EvacuationValid, evacuated_valid}
+use Rattle.valid_stays.proofs.OfRecordMarks.{SafeFits, ValueFits, argument_fits, subterm_fits, safe_fits, remembered-fits}
 
 module _ (k : Kinds) (records mappings queue freed rows sets : List ℕ) where
   abbrev pub ReachedValid : Reached → Type 0

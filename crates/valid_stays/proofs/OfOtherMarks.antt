@@ -27,12 +27,12 @@ use Rattle.marks.specs.declared.Marked.{Marked}
 use Rattle.other_marks.specs.OtherMarks.{emptied_in, turn_taken, marked_at, instructed_at, MarkOf, anon_argument, is_argument, anon_placed, anon_chosen, anon_marked}
 use Rattle.other_marks.specs.OtherMarks.{term_chosen, term_marked, cell_marked, non_var_argument, non_var_marked, CutOf, slot_cut_by, slot_cut, register_cut_by, register_cut, cut_as, cut_marked}
 use Rattle.valid_stays.specs.Fits.{Kinds, AllocFits, Valid, Uses}
-use Rattle.valid_stays.specs.RecordsFit.{record_fits}
-use Rattle.valid_stays.specs.Steps.{put_valid, used_valid}
-use Rattle.valid_stays.specs.OfEvacuation.{PlacedChoice, EvacuationValid, evacuated_valid}
-use Rattle.valid_stays.specs.OfAllocation.{PlacementValid, non_var_valid, perm_placed_valid}
-use Rattle.valid_stays.specs.OfRecordMarks.{allocated-fits}
-use Rattle.valid_stays.specs.OfReservedVar.{advanced_valid}
+use Rattle.valid_stays.proofs.RecordsFit.{record_fits}
+use Rattle.valid_stays.proofs.Steps.{put_valid, used_valid}
+use Rattle.valid_stays.proofs.OfEvacuation.{PlacedChoice, EvacuationValid, evacuated_valid}
+use Rattle.valid_stays.proofs.OfAllocation.{PlacementValid, non_var_valid, perm_placed_valid}
+use Rattle.valid_stays.proofs.OfRecordMarks.{allocated-fits}
+use Rattle.valid_stays.proofs.OfReservedVar.{advanced_valid}
 
 module _ (k : Kinds) (records mappings queue freed rows sets : List ℕ) where
   abbrev MarkedValid : Marked → Type 0

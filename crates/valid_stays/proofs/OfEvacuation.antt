@@ -22,8 +22,8 @@ use Rattle.evacuation.specs.Evacuation.{Sets, Evacuation, alloc_with_cr, alloc_w
 use Rattle.events.specs.Events.{is_use, is_context}
 use Rattle.invariants.specs.Lists.{All, all_map}
 use Rattle.valid_stays.specs.Fits.{Kinds, Placed, Counts, Temporary, Valid, Uses}
-use Rattle.valid_stays.specs.TablesFit.{mapped_at_lem, named-temporary}
-use Rattle.valid_stays.specs.Steps.{placed_valid, mapped_valid, used_valid}
+use Rattle.valid_stays.proofs.TablesFit.{mapped_at_lem, named-temporary}
+use Rattle.valid_stays.proofs.Steps.{placed_valid, mapped_valid, used_valid}
 
 -- ---- The uses
 

@@ -11,8 +11,8 @@ use Rattle.allocator_state.specs.declared.Counters.{Counters}
 use Rattle.allocator_state.specs.Counters.{with_arg_c, with_temp_lb, with_perm_lb, with_arity, with_in_tail_position, with_events_seen, with_freed_registers, with_open_branches, with_in_use}
 use Rattle.allocation.specs.Allocation.{without_front}
 use Rattle.valid_stays.specs.Fits.{Kinds, Placed, Counter, Counts, RecordFits, Records, Named, Mappings, Queue, Branches, Freed, Valid}
-use Rattle.valid_stays.specs.RecordsFit.{record_fits, records_put, placed_at-fits}
-use Rattle.valid_stays.specs.TablesFit.{inserted_usable, mapped_with_lem, queue_front, freed_more, freed_fewer}
+use Rattle.valid_stays.proofs.RecordsFit.{record_fits, records_put, placed_at-fits}
+use Rattle.valid_stays.proofs.TablesFit.{inserted_usable, mapped_with_lem, queue_front, freed_more, freed_fewer}
 
 module _ (k : Kinds) {c : Counters} {records mappings queue freed rows sets : List ℕ} (h : Valid k c records mappings queue freed rows sets) where
   -- other records

@@ -6,9 +6,9 @@ use Rattle.debray_allocator.specs.State.{fresh_state}
 use Rattle.debray_allocator.specs.DebrayAllocator.{stepped}
 use Rattle.valid_states.specs.ValidStates.{is_valid}
 use Rattle.valid_stays.specs.Fits.{Full}
-use Rattle.valid_stays.specs.OfSteps.{Fitting, stepped-fits}
-use Rattle.valid_stays.specs.FromTests.{kinds_of, valid_small, valid_fits}
-use Rattle.valid_stays.specs.ToTests.{fits_valid, fits_full}
+use Rattle.valid_stays.proofs.OfSteps.{Fitting, stepped-fits}
+use Rattle.valid_stays.proofs.FromTests.{kinds_of, valid_small, valid_fits}
+use Rattle.valid_stays.proofs.ToTests.{fits_valid, fits_full}
 
 module _ (s : State) (full : Full s) (valid : is_valid s ≡ true) (event : Event) (list : List ℕ) where
   after : Fitting (stepped s event list).state

@@ -26,7 +26,7 @@ use Rattle.valid_states.specs.ValidStates.{names_none_or, row_fits}
 use Rattle.invariants.specs.Lists.{All, each_keeps}
 use Rattle.valid_stays.specs.Tests.{one_of, left_so, right_so}
 use Rattle.valid_stays.specs.Fits.{Kinds, RecordFits, Records, Named, Mappings, Queue, Permanent, Branches, Valid, Uses, Restricted}
-use Rattle.valid_stays.specs.RecordsFit.{row_put-same, row_put-other, row_of_record}
+use Rattle.valid_stays.proofs.RecordsFit.{row_put-same, row_put-other, row_of_record}
 
 -- ---- More variables, those there were of their kinds
 

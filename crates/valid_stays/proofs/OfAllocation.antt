@@ -24,10 +24,10 @@ use Rattle.allocation.specs.declared.NonVar.{NonVar}
 use Rattle.allocation.specs.Allocation.{popped, searched, non_var_by, non_var, slot_given, slot_taken, Placement, new_slot, slot_found, perm_placed}
 use Rattle.freeing.specs.Freeing.{Release, pushed_free, ReleaseOf, freed_as, freed as freeing, running_at, counted_or_freed}
 use Rattle.valid_stays.specs.Fits.{Kinds, Placed, AllocFits, EntryFits, Queue, Freed, Valid}
-use Rattle.valid_stays.specs.RecordsFit.{record_fits}
-use Rattle.valid_stays.specs.TablesFit.{counter_after_lem, queue_pushed}
-use Rattle.valid_stays.specs.Steps.{put_valid, placed_valid, used_valid, search_valid, slot_valid, fewer_valid, front_valid}
-use Rattle.valid_stays.specs.OfEvacuation.{PlacedChoice, outside_placed}
+use Rattle.valid_stays.proofs.RecordsFit.{record_fits}
+use Rattle.valid_stays.proofs.TablesFit.{counter_after_lem, queue_pushed}
+use Rattle.valid_stays.proofs.Steps.{put_valid, placed_valid, used_valid, search_valid, slot_valid, fewer_valid, front_valid}
+use Rattle.valid_stays.proofs.OfEvacuation.{PlacedChoice, outside_placed}
 
 -- ---- A freed register
 

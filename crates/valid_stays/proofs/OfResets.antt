@@ -27,11 +27,11 @@ use Rattle.resets.specs.Resets.{arg_reset, head_arguments, Heading, heading, has
 use Rattle.resets.specs.Resets.{Clearing, arg_advanced, contents_reset, whole_reset, free_list_reset, register_freed, Answer, running_incremented, safe_marked_as, safe_marked}
 use Rattle.invariants.specs.Lists.{All, all_take}
 use Rattle.valid_stays.specs.Fits.{Kinds, Placed, Counter, AllocFits, Temporary, Valid}
-use Rattle.valid_stays.specs.RecordsFit.{record_fits}
-use Rattle.valid_stays.specs.TablesFit.{counter_after_lem, removed_usable, none_mapped}
-use Rattle.valid_stays.specs.Steps.{put_valid, placed_valid, mapped_valid, with_mappings, argument_valid, search_valid, slot_valid, arity_valid, in_use_valid, used_valid, fewer_valid, more_valid}
-use Rattle.valid_stays.specs.OfAllocation.{running_valid}
-use Rattle.valid_stays.specs.OfRecordMarks.{SafeFits, unconditionally_fits}
+use Rattle.valid_stays.proofs.RecordsFit.{record_fits}
+use Rattle.valid_stays.proofs.TablesFit.{counter_after_lem, removed_usable, none_mapped}
+use Rattle.valid_stays.proofs.Steps.{put_valid, placed_valid, mapped_valid, with_mappings, argument_valid, search_valid, slot_valid, arity_valid, in_use_valid, used_valid, fewer_valid, more_valid}
+use Rattle.valid_stays.proofs.OfAllocation.{running_valid}
+use Rattle.valid_stays.proofs.OfRecordMarks.{SafeFits, unconditionally_fits}
 
 module _ (k : Kinds) (queue freed rows sets : List ℕ) where
   abbrev pub HeadingValid : Heading → Type 0

@@ -19,7 +19,7 @@ use Rattle.allocator_state.specs.declared.Counters.{Counters}
 use Rattle.clause_records.specs.ClauseRecords.{chunk_at, chunks_of, Restricting, populated}
 use Rattle.invariants.specs.Lists.{All}
 use Rattle.valid_stays.specs.Fits.{Kinds, Placed, Counts, Uses, Restricted}
-use Rattle.valid_stays.specs.OfEvacuation.{uses_placed}
+use Rattle.valid_stays.proofs.OfEvacuation.{uses_placed}
 
 all_member : (P : ℕ → Type 0) (ns : List ℕ) (n : ℕ) → All P ns → n ∈ ns → P n
 all_member P [] n all m = absurd (Memᴰ.not-nil m)

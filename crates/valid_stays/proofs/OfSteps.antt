@@ -30,14 +30,14 @@ use Rattle.invariants.specs.Lists.{All}
 use Rattle.invariants.specs.OfEvents.{unrefused_in_size}
 use Rattle.valid_stays.specs.Tests.{one_of}
 use Rattle.valid_stays.specs.Fits.{Kinds, RecordFits, Valid, StateFits}
-use Rattle.valid_stays.specs.Steps.{tail_valid, seen_valid}
-use Rattle.valid_stays.specs.OfAllocation.{freed_valid}
-use Rattle.valid_stays.specs.OfMarkVar.{var_marked_valid}
-use Rattle.valid_stays.specs.OfOtherMarks.{anon_marked_valid, non_var_marked_valid, cut_marked_valid}
-use Rattle.valid_stays.specs.OfResets.{Argument, args_valid, head_valid, next_valid, clear_valid, contents_valid, reset_valid, give_valid, incremented_valid, safe_valid}
-use Rattle.valid_stays.specs.OfBranchEvents.{open_valid, arm_valid, take_valid, close_valid}
-use Rattle.valid_stays.specs.OfSets.{populated_restricted}
-use Rattle.valid_stays.specs.OfClauseRecords.{grown, grown_kind, grown_valid, restricted_more, uses-none, uses_given_lem}
+use Rattle.valid_stays.proofs.Steps.{tail_valid, seen_valid}
+use Rattle.valid_stays.proofs.OfAllocation.{freed_valid}
+use Rattle.valid_stays.proofs.OfMarkVar.{var_marked_valid}
+use Rattle.valid_stays.proofs.OfOtherMarks.{anon_marked_valid, non_var_marked_valid, cut_marked_valid}
+use Rattle.valid_stays.proofs.OfResets.{Argument, args_valid, head_valid, next_valid, clear_valid, contents_valid, reset_valid, give_valid, incremented_valid, safe_valid}
+use Rattle.valid_stays.proofs.OfBranchEvents.{open_valid, arm_valid, take_valid, close_valid}
+use Rattle.valid_stays.proofs.OfSets.{populated_restricted}
+use Rattle.valid_stays.proofs.OfClauseRecords.{grown, grown_kind, grown_valid, restricted_more, uses-none, uses_given_lem}
 
 -- with so many variables, of such kinds
 abbrev pub Fitting : State → Type 0

@@ -25,10 +25,10 @@ use Rattle.branches.specs.Branches.{safety_taken, allocation_pending, variable_p
 use Rattle.branch_events.specs.BranchEvents.{Stack, BranchStep, branch_from, open_released, opened, armed, stock_taken, close_released, closed}
 use Rattle.invariants.specs.Lists.{All, each_keeps}
 use Rattle.valid_stays.specs.Fits.{Kinds, AllocFits, Records, Permanent, Valid}
-use Rattle.valid_stays.specs.RecordsFit.{record_fits, records_put}
-use Rattle.valid_stays.specs.Steps.{with_records_lem, with_branches, levels_valid}
-use Rattle.valid_stays.specs.OfBranches.{opened-fits, top_fits, branches_put, top_put, branches_popped, hits_permanent, branches_taken}
-use Rattle.valid_stays.specs.OfRecordMarks.{allocated-fits}
+use Rattle.valid_stays.proofs.RecordsFit.{record_fits, records_put}
+use Rattle.valid_stays.proofs.Steps.{with_records_lem, with_branches, levels_valid}
+use Rattle.valid_stays.proofs.OfBranches.{opened-fits, top_fits, branches_put, top_put, branches_popped, hits_permanent, branches_taken}
+use Rattle.valid_stays.proofs.OfRecordMarks.{allocated-fits}
 
 module _ (k : Kinds) (records mappings queue freed : List ℕ) where
   abbrev pub StackValid : Stack → Type 0

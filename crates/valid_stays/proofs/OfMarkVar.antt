@@ -34,12 +34,12 @@ use Rattle.mark_var.specs.MarkVar.{Noted, noted_slot, noted, settled, Marking, f
 use Rattle.mark_var.specs.MarkVar.{VarMark, marked_at, new_temporary_after, new_temporary_marked, new_slot_after, new_slot_marked, slot_marked}
 use Rattle.mark_var.specs.MarkVar.{temporary_marked, permanent_marked, marked_by, var_marked}
 use Rattle.valid_stays.specs.Fits.{Kinds, Placed, AllocFits, Valid, Uses}
-use Rattle.valid_stays.specs.RecordsFit.{record_fits}
-use Rattle.valid_stays.specs.Steps.{placed_valid, mapped_valid, used_valid, with_branches}
-use Rattle.valid_stays.specs.OfEvacuation.{PlacedChoice, cr_placed, ca_placed, EvacuationValid, evacuated_valid}
-use Rattle.valid_stays.specs.OfAllocation.{PlacementValid, ReleaseValid, slot_given_valid, perm_placed_valid, counted_or_freed_valid}
-use Rattle.valid_stays.specs.OfBranches.{branches_recorded}
-use Rattle.valid_stays.specs.OfReservedVar.{subterm_made_valid, argument_marked_valid}
+use Rattle.valid_stays.proofs.RecordsFit.{record_fits}
+use Rattle.valid_stays.proofs.Steps.{placed_valid, mapped_valid, used_valid, with_branches}
+use Rattle.valid_stays.proofs.OfEvacuation.{PlacedChoice, cr_placed, ca_placed, EvacuationValid, evacuated_valid}
+use Rattle.valid_stays.proofs.OfAllocation.{PlacementValid, ReleaseValid, slot_given_valid, perm_placed_valid, counted_or_freed_valid}
+use Rattle.valid_stays.proofs.OfBranches.{branches_recorded}
+use Rattle.valid_stays.proofs.OfReservedVar.{subterm_made_valid, argument_marked_valid}
 
 -- a place of the variable's kind
 abbrev pub PlaceFits : Kinds → ℕ → RegType → Type 0
