@@ -28,8 +28,8 @@ use Rattle.valid_states.specs.ValidStates.{is_valid}
 use Rattle.valid_states.specs.ValidStatesLaws.{fresh_valid}
 use Rattle.valid_stays.specs.Fits.{Full}
 use Rattle.valid_stays.proofs.ValidStays.{valid_stays_lem, lengths_stay}
-use Rattle.valid_stays.specs.Reachable.{Reachable}
-use Rattle.valid_stays.proofs.ReachableLaws.{fresh, reachable_valid, reachable_step}
+use Rattle.valid_stays.specs.Reachable.{Reachable, fresh}
+use Rattle.valid_stays.proofs.ReachableLaws.{reachable_valid, reachable_step}
 use Rattle.event_calls.specs.EventCalls.{parts_answer, bytes_answer, called_by, called, call_filled, last_filled}
 use Rattle.event_calls.specs.CallLaws.{called_valid, by-refused, by_written, last_fits}
 use Rattle.event_calls.specs.Fold.{with_feed, gathered, nothing_more, fed, all_valid, lines_fit, all_within}

@@ -18,3 +18,7 @@ from_zero n = +ℤ_idl (neg_ℤ (pos n))
 -- a number that fits is what its word says
 pub read_back : {z y : ℤ} → mag z < 2 ^ 63 → z ≡ y → to_z w64 (of_z w64 z) ≡ y
 read_back fits e = to_z-of_z {w = w64} (record { sfits = fits }) ∙ e
+
+-- and what is taken from 0 is its negation
+pub told-negated : {told : ℤ} (n : ℕ) → mag told < 2 ^ 63 → told ≡ pos n → pos 0 -ℤ to_z w64 (of_z w64 told) ≡ neg_ℤ (pos n)
+told-negated n small e = ap (λ (z : ℤ). pos 0 -ℤ z) (read_back small e) ∙ from_zero n

@@ -33,73 +33,6 @@ use Rattle.event_calls.specs.EventCalls.{parts_answer, bytes_answer, called_by, 
 use Rattle.event_calls.specs.CallLaws.{called_valid, by-refused}
 use Rattle.valid_stays.specs.Fits.{Full}
 use Rattle.valid_stays.proofs.FromTests.{kinds_of, valid_small, valid_fits}
-use Rattle.refusals_given.specs.Given.{carrying_refusals}
-use Rattle.refusals_given.specs.OfEvents.{before_given}
-use Rattle.refusals_given.specs.OfSteps.{CarryingRow, stepped_by}
-use Rattle.refusals_given.specs.RefusalsGiven.{all_so, event_given, sheet_small}
-
--- ---- 1: rule 4.1
-
-module _ (s : State) (full : Full s) (valid : is_valid s ≡ true) where
-  said_form : (said : Line) (list : List ℕ) → (said_answer s said list).refusal ≡ refused_form → said ≡ Malformed
-  said_form Malformed list e = refl
-  said_form (Says event count) list e = absurd ((event_given s full valid event list).1 e)
-
-  form_given : (said : Line) (list : List ℕ) → said ≡ Malformed → (said_answer s said list).refusal ≡ refused_form
-  unfolding refused_with
-  form_given said list e = ap (λ (said : Line). (said_answer s said list).refusal) e
-
-  pub form_exactly : (line : List ℕ) → ((line_answer s line).refusal ≡ refused_form) ↔ (line_says line ≡ Malformed)
-  unfolding line_answer
-  form_exactly line = (said_form (line_says line) (line_list line), form_given (line_says line) (line_list line))
-
--- ---- 2 and 3: rules 4.2, 4.3
-
--- no number of what only comes before
-abbrev Late : ℕ → Type 0
-Late n = (n ≢ refused_order) × (n ≢ refused_size)
-
-none_late : Late accepted
-none_late = (omega arith, omega arith)
-
-stop_late : Late refused_stop
-stop_late = (omega arith, omega arith)
-
-register_late : Late refused_register
-register_late = (omega arith, omega arith)
-
-slot_late : Late refused_slot
-slot_late = (omega arith, omega arith)
-
-full_late : Late refused_full
-full_late = (omega arith, omega arith)
-
-carrying_late : (event : Event) → CarryingRow Late event
-carrying_late (Temp context occurrences) = (none_late, tt)
-carrying_late (Perm occurrences) = (none_late, tt)
-carrying_late Sets = (none_late, tt)
-carrying_late Head = (none_late, tt)
-carrying_late (Args count) = (none_late, tt)
-carrying_late (Var target level context v) = (none_late, (stop_late, (register_late, (slot_late, (full_late, tt)))))
-carrying_late (Anon target level context) = (none_late, (register_late, tt))
-carrying_late (NonVar level context cell) = (none_late, (register_late, tt))
-carrying_late (Cut v chunk) = (none_late, (register_late, (slot_late, tt)))
-carrying_late (Incr v) = (none_late, (full_late, tt))
-carrying_late (Free chunk v) = (none_late, (full_late, tt))
-carrying_late (Safe v) = (none_late, (stop_late, tt))
-carrying_late (Give r) = (none_late, (full_late, tt))
-carrying_late (Tail tail) = (none_late, tt)
-carrying_late Next = (none_late, tt)
-carrying_late (Open start span arms) = (none_late, (full_late, tt))
-carrying_late (Arm start span) = (none_late, (stop_late, (full_late, tt)))
-carrying_late Take = (none_late, (stop_late, tt))
-carrying_late (Close depth) = (none_late, (stop_late, tt))
-carrying_late Reset = (none_late, tt)
-carrying_late Contents = (none_late, tt)
-carrying_late ClearFree = (none_late, tt)
-
-abbrev NotFull : ℕ → Type 0
-NotFull n = n ≢ refused_full
 
 -- nothing is full while the event is carried out
 abbrev pub FullOnlyBefore : Event → Type 0
@@ -126,31 +59,7 @@ FullOnlyBefore Reset = Unit {0}
 FullOnlyBefore Contents = Unit {0}
 FullOnlyBefore ClearFree = Unit {0}
 
-not_full_row : (event : Event) → FullOnlyBefore event → CarryingRow NotFull event
-not_full_row (Temp context occurrences) only = (omega arith, tt)
-not_full_row (Perm occurrences) only = (omega arith, tt)
-not_full_row Sets only = (omega arith, tt)
-not_full_row Head only = (omega arith, tt)
-not_full_row (Args count) only = (omega arith, tt)
-not_full_row (Var target level context v) only = absurd only
-not_full_row (Anon target level context) only = (omega arith, (omega arith, tt))
-not_full_row (NonVar level context cell) only = (omega arith, (omega arith, tt))
-not_full_row (Cut v chunk) only = (omega arith, (omega arith, (omega arith, tt)))
-not_full_row (Incr v) only = absurd only
-not_full_row (Free chunk v) only = absurd only
-not_full_row (Safe v) only = (omega arith, (omega arith, tt))
-not_full_row (Give r) only = absurd only
-not_full_row (Tail tail) only = (omega arith, tt)
-not_full_row Next only = (omega arith, tt)
-not_full_row (Open start span arms) only = absurd only
-not_full_row (Arm start span) only = absurd only
-not_full_row Take only = (omega arith, (omega arith, tt))
-not_full_row (Close depth) only = (omega arith, (omega arith, tt))
-not_full_row Reset only = (omega arith, tt)
-not_full_row Contents only = (omega arith, tt)
-not_full_row ClearFree only = (omega arith, tt)
-
-module _ (s : State) (full : Full s) (valid : is_valid s ≡ true) (event : Event) (list : List ℕ) where
+module _ (s : State) (event : Event) (list : List ℕ) where
   -- rule 5.2: a record behind an event
   abbrev pub out_of_order : Bool
   out_of_order = is_record event && ltb 0 s.counters.events_seen
@@ -159,204 +68,23 @@ module _ (s : State) (full : Full s) (valid : is_valid s ≡ true) (event : Even
   abbrev pub sizes_fit : Bool
   sizes_fit = in_size s.counters.records event list
 
-  abbrev first : ℕ
-  first = refusal_before s.counters event list
-
-  -- what refuses a line before it is carried out is what it is given
-  first_given : 0 < first → (stepped s event list).refusal ≡ first
-  unfolding stepped unless_refused acted refused_with
-  first_given some =
-      let Same : Answer → Type 0 = λ a. a.refusal ≡ first in
-      let reached : Same (acted s event list) =
-      by_test Same (ltb 0 first) (λ e. refl) (λ e. absurd (omega (arith, ltb-false 0 first e))) in
-      either Same (ltb 0 (acted s event list).refusal) reached reached
-
-  -- and no other line is given a number that only comes before
-  only-before : (P : ℕ → Type 0) → P first → ((n : ℕ) → Late n → P n) → P (stepped s event list).refusal
-  only-before P before late =
-      stepped_by P s (kinds_of s (valid_small s valid)) (valid_fits s full valid) event list before
-      (all_so late (accepted ∷ carrying_refusals event) (carrying_late event))
-
-  order_only : (stepped s event list).refusal ≡ refused_order → out_of_order ≡ true
-  order_only =
-      let P : ℕ → Type 0 = λ n. n ≡ refused_order → out_of_order ≡ true in
-      only-before P
-      (before_given P (λ same. absurd (omega arith)) s.counters event list (λ e same. e) (λ e same. absurd (omega arith))
-      (λ e same. absurd (omega arith)))
-      (λ n late same. absurd (late.0 same))
-
-  order_given : out_of_order ≡ true → (stepped s event list).refusal ≡ refused_order
-  unfolding refusal_before
-  order_given e =
-      let same : first ≡ refused_order = simp (e) in
-      first_given (omega (arith, same)) ∙ same
-
-  pub order_exactly : ((stepped s event list).refusal ≡ refused_order) ↔ (out_of_order ≡ true)
-  order_exactly = (order_only, order_given)
-
-  size_only : (stepped s event list).refusal ≡ refused_size → sizes_fit ≡ false
-  size_only =
-      let P : ℕ → Type 0 = λ n. n ≡ refused_size → sizes_fit ≡ false in
-      only-before P
-      (before_given P (λ same. absurd (omega arith)) s.counters event list (λ e same. absurd (omega arith)) (λ e same. e)
-      (λ e same. absurd (omega arith)))
-      (λ n late same. absurd (late.1 same))
-
-  module _ (in_order : out_of_order ≡ false) where
-    size_given : sizes_fit ≡ false → (stepped s event list).refusal ≡ refused_size
-    unfolding refusal_before refusal_by_size
-    size_given e =
-        let same : first ≡ refused_size = simp (in_order, e) in
-        first_given (omega (arith, same)) ∙ same
-
-    pub size_exactly : ((stepped s event list).refusal ≡ refused_size) ↔ (sizes_fit ≡ false)
-    size_exactly = (size_only, size_given)
-
-  -- ---- 7 before a line is carried out (rule 4.7), for events of which nothing can be full later
-
   -- a list that is too long, a record too many, or the argument counter at 64
   abbrev pub too_full : Bool
   too_full = is_full s.counters event (length list)
 
-  full_only : CarryingRow NotFull event → (stepped s event list).refusal ≡ refused_full → too_full ≡ true
-  full_only row =
-      let P : ℕ → Type 0 = λ n. n ≡ refused_full → too_full ≡ true in
-      stepped_by P s (kinds_of s (valid_small s valid)) (valid_fits s full valid) event list
-      (before_given P (λ same. absurd (omega arith)) s.counters event list (λ e same. absurd (omega arith))
-      (λ e same. absurd (omega arith)) (λ e same. e))
-      (all_so (λ n other same. absurd (other same)) (accepted ∷ carrying_refusals event) row)
-
-  module _ (in_order : out_of_order ≡ false) (fits : sizes_fit ≡ true) where
-    full_given : too_full ≡ true → (stepped s event list).refusal ≡ refused_full
-    unfolding refusal_before refusal_by_size
-    full_given e =
-        let same : first ≡ refused_full = simp (in_order, fits, e) in
-        first_given (omega (arith, same)) ∙ same
-
-    pub full_exactly : FullOnlyBefore event → ((stepped s event list).refusal ≡ refused_full) ↔ (too_full ≡ true)
-    full_exactly only = (full_only (not_full_row event only), full_given)
-
--- ---- A sheet as a whole: 7 for its length, first of all, and 9 for the room, last of all (rules 4.9, 4.10)
-
--- a line that is refused has a number
-abbrev Numbered : Ran → Type 0
-Numbered r = 0 < r.refusal → 1 ≤ r.line
-
-ran-numbered : (parts : List (List ℕ)) (s : State) (number : ℕ) → 1 ≤ number → Numbered (ran s number parts)
-unfolding ran last_ran line_ran
-ran-numbered [] s number some = λ refused. absurd (omega arith)
-ran-numbered (left ∷ []) s number some = either Numbered (ltb 0 (length left)) (λ refused. some) (λ refused. absurd (omega arith))
-ran-numbered (line ∷ (next ∷ parts)) s number some =
-    either Numbered (ltb 0 (line_answer s line).refusal) (λ refused. some)
-    (ran-numbered (next ∷ parts) (line_answer s line).state (suc number) (omega arith))
-
-sheet-numbered : (sheet : List ℕ) → Numbered (sheet_ran sheet)
-unfolding sheet_ran
-sheet-numbered sheet = ran-numbered (split line_feed sheet) fresh_state 1 (omega arith)
-
-module _ (r : Ran) (lent : ℕ) where
-  -- the sheet is not refused as a whole but for the room
-  by_lines : Numbered r → answered_by r lent ≡ Refused 0 refused_full → ⊥
-  unfolding answered_by
-  by_lines numbered =
-      let NotFull : Answered → Type 0 = λ a. a ≡ Refused 0 refused_full → ⊥ in
-      by_test NotFull (ltb 0 r.refusal)
-      (λ e same. omega (arith, ap line_in same, numbered (ltb-true 0 r.refusal e)))
-      (λ e. either NotFull (ltb lent (length r.text)) (λ same. omega (arith, ap refusal_in same)) (λ same. omega (arith, ap refusal_in same)))
-
-  by_room : r.refusal ≤ refused_full → answered_by r lent ≡ Refused 0 refused_room → (r.refusal ≤ 0) × (lent < length r.text)
-  unfolding answered_by
-  by_room small =
-      let Roomless : Answered → Type 0 = λ a. a ≡ Refused 0 refused_room → (r.refusal ≤ 0) × (lent < length r.text) in
-      by_test Roomless (ltb 0 r.refusal) (λ e same. absurd (omega (arith, ap refusal_in same, small)))
-      (λ e. by_test Roomless (ltb lent (length r.text)) (λ longer same. (ltb-false 0 r.refusal e, ltb-true lent (length r.text) longer))
-      (λ fits same. absurd (omega (arith, ap refusal_in same))))
-
-  room_given : r.refusal ≤ 0 → lent < length r.text → answered_by r lent ≡ Refused 0 refused_room
-  unfolding answered_by
-  room_given accepts longer = simp (le-ltb 0 r.refusal accepts, lt-ltb lent (length r.text) longer)
+-- ---- A sheet as a whole
 
 module _ (sheet : List ℕ) (lent : ℕ) where
-  length-only : answered sheet lent ≡ Refused 0 refused_full → sheet_bytes < length sheet
-  unfolding answered
-  length-only =
-      let TooLong : Answered → Type 0 = λ a. a ≡ Refused 0 refused_full → sheet_bytes < length sheet in
-      by_test TooLong (ltb sheet_bytes (length sheet)) (λ e same. ltb-true sheet_bytes (length sheet) e)
-      (λ e same. absurd (by_lines (sheet_ran sheet) lent (sheet-numbered sheet) same))
-
-  length_given : sheet_bytes < length sheet → answered sheet lent ≡ Refused 0 refused_full
-  unfolding answered
-  length_given long = simp (lt-ltb sheet_bytes (length sheet) long)
-
-  pub length_exactly : (answered sheet lent ≡ Refused 0 refused_full) ↔ (sheet_bytes < length sheet)
-  length_exactly = (length-only, length_given)
-
   -- no line is refused, and the text is longer than the room
   abbrev pub Roomless : Type 0
   Roomless = (length sheet ≤ sheet_bytes) × ((sheet_ran sheet).refusal ≤ accepted) × (lent < length (sheet_ran sheet).text)
 
-  room_only : answered sheet lent ≡ Refused 0 refused_room → Roomless
-  unfolding answered
-  room_only =
-      let ToldRoomless : Answered → Type 0 = λ a. a ≡ Refused 0 refused_room → Roomless in
-      by_test ToldRoomless (ltb sheet_bytes (length sheet)) (λ e same. absurd (omega (arith, ap refusal_in same)))
-      (λ e same. (let found = by_room (sheet_ran sheet) lent (sheet_small sheet) same in
-      (ltb-false sheet_bytes (length sheet) e, found.0, found.1)))
-
-  room_so : Roomless → answered sheet lent ≡ Refused 0 refused_room
-  unfolding answered
-  room_so h = simp (le-ltb sheet_bytes (length sheet) h.0, room_given (sheet_ran sheet) lent h.1 h.2)
-
-  pub room_exactly : (answered sheet lent ≡ Refused 0 refused_room) ↔ Roomless
-  room_exactly = (room_only, room_so)
-
--- ---- A call: 3 for its state, first of all, and then 7 for its length (rules 17.4, 17.6)
+-- ---- A call
 
 module _ (s : State) (bytes : List ℕ) (lent : ℕ) where
-  -- at line 0 a line is refused for the room alone
-  abbrev RoomOnly : Called → Type 0
-  RoomOnly c = (refusal : ℕ) → c.answered ≡ Refused 0 refusal → refusal ≡ refused_room
-
-  by-line : (a : Answer) → RoomOnly (called_by s a lent)
-  unfolding called_by
-  by-line a =
-      either RoomOnly (ltb 0 a.refusal) (λ refusal same. absurd (omega (arith, ap line_in same)))
-      (either RoomOnly (ltb lent (length (text_of a))) (λ refusal same. omega (arith, ap refusal_in same))
-      (λ refusal same. (let z : ◌≡◌ {A = ℕ} 0 1 = cc in absurd (omega arith))))
-
-  state_only : (called s bytes lent).answered ≡ Refused 0 refused_size → is_valid s ≡ false
-  unfolding called
-  state_only =
-      let Invalid : Called → Type 0 = λ c. c.answered ≡ Refused 0 refused_size → is_valid s ≡ false in
-      by_test Invalid (not (is_valid s)) (λ e same. not-true _ e)
-      (λ e. either Invalid (ltb sheet_bytes (length bytes)) (λ same. absurd (omega (arith, ap refusal_in same)))
-      (λ same. absurd (omega (arith, by-line (bytes_answer s bytes) refused_size same))))
-
-  state_given : is_valid s ≡ false → (called s bytes lent).answered ≡ Refused 0 refused_size
-  unfolding called
-  state_given e = simp e
-
-  pub state_exactly : ((called s bytes lent).answered ≡ Refused 0 refused_size) ↔ (is_valid s ≡ false)
-  state_exactly = (state_only, state_given)
-
   -- a line longer than a sheet, given to a valid state
   abbrev pub TooLong : Type 0
   TooLong = (is_valid s ≡ true) × (sheet_bytes < length bytes)
-
-  long_only : (called s bytes lent).answered ≡ Refused 0 refused_full → TooLong
-  unfolding called
-  long_only =
-      let Long : Called → Type 0 = λ c. c.answered ≡ Refused 0 refused_full → TooLong in
-      by_test Long (not (is_valid s)) (λ e same. absurd (omega (arith, ap refusal_in same)))
-      (λ e. by_test Long (ltb sheet_bytes (length bytes)) (λ long same. (not-false _ e, ltb-true sheet_bytes (length bytes) long))
-      (λ fits same. absurd (omega (arith, by-line (bytes_answer s bytes) refused_full same))))
-
-  long_given : TooLong → (called s bytes lent).answered ≡ Refused 0 refused_full
-  unfolding called
-  long_given h = simp (h.0, lt-ltb sheet_bytes (length bytes) h.1)
-
-  pub long_exactly : ((called s bytes lent).answered ≡ Refused 0 refused_full) ↔ TooLong
-  long_exactly = (long_only, long_given)
 
 -- rule 17.3: a line is bytes with one LF, which stands behind all others; here there is none, or its form is wrong
 abbrev pub Formless : List (List ℕ) → Type 0
@@ -365,41 +93,3 @@ Formless (left ∷ []) = Unit {0}
 Formless (line ∷ ([] ∷ [])) = line_says line ≡ Malformed
 Formless (line ∷ ([] ∷ (other ∷ others))) = Unit {0}
 Formless (line ∷ ((byte ∷ more) ∷ others)) = Unit {0}
-
-module _ (s : State) (full : Full s) (valid : is_valid s ≡ true) where
-  formless_only : (parts : List (List ℕ)) → (parts_answer s parts).refusal ≡ refused_form → Formless parts
-  formless_only [] e = tt
-  formless_only (left ∷ []) e = tt
-  formless_only (line ∷ ([] ∷ [])) e = (form_exactly s full valid line).0 e
-  formless_only (line ∷ ([] ∷ (other ∷ others))) e = tt
-  formless_only (line ∷ ((byte ∷ more) ∷ others)) e = tt
-
-  formless_given : (parts : List (List ℕ)) → Formless parts → (parts_answer s parts).refusal ≡ refused_form
-  unfolding refused_with
-  formless_given [] h = refl
-  formless_given (left ∷ []) h = refl
-  formless_given (line ∷ ([] ∷ [])) h = (form_exactly s full valid line).1 h
-  formless_given (line ∷ ([] ∷ (other ∷ others))) h = refl
-  formless_given (line ∷ ((byte ∷ more) ∷ others)) h = refl
-
-  module _ (lent : ℕ) where
-    on_its_line : (a : Answer) → (called_by s a lent).answered ≡ Refused 1 refused_form → a.refusal ≡ refused_form
-    unfolding called_by
-    on_its_line a =
-        let Same : Called → Type 0 = λ c. c.answered ≡ Refused 1 refused_form → a.refusal ≡ refused_form in
-        either Same (ltb 0 a.refusal) (λ same. ap refusal_in same)
-        (either Same (ltb lent (length (text_of a))) (λ same. absurd (omega (arith, ap line_in same)))
-        (λ same. absurd (omega (arith, ap line_in same))))
-
-    pub formless_exactly :
-        (bytes : List ℕ) → length bytes ≤ sheet_bytes
-        → ((called s bytes lent).answered ≡ Refused 1 refused_form) ↔ Formless (split line_feed bytes)
-    unfolding bytes_answer
-    formless_exactly bytes fits =
-        let a = bytes_answer s bytes in
-        let parts = split line_feed bytes in
-        let same : called s bytes lent ≡ called_by s a lent = called_valid s bytes lent valid fits in (
-          λ e. formless_only parts (on_its_line a (ap (λ c. c.answered) (sym same) ∙ e)),
-          λ h. (let e : a.refusal ≡ refused_form = formless_given parts h in
-              ap (λ c. c.answered) (same ∙ by-refused s a lent (omega (arith, e))) ∙ ap (Refused 1) e),
-        )

@@ -12,7 +12,7 @@ use Rattle.valid_states.specs.ValidStates.{is_valid}
 use Rattle.valid_states.specs.ValidStatesLaws.{fresh_valid}
 use Rattle.valid_stays.specs.Fits.{Full}
 use Rattle.valid_stays.proofs.ValidStays.{valid_stays_lem, lengths_stay, full_fresh}
-use Rattle.valid_stays.specs.Reachable.{Reachable, Sound}
+use Rattle.valid_stays.specs.Reachable.{Reachable, fresh, after, Sound}
 
 -- what holds of a fresh clause, and still holds after every line that is not refused, holds of every reachable state
 module _

@@ -1,15 +1,11 @@
 -- What a clause can become: rules 4.11, 6.2. Each such state is valid (rule 17.7), and its tables have their lengths.
-use Rattle.std.specs.Prelude.{ℕ, ◌≡◌, true, List, ltb}
-use Rattle.std.proofs.Common.{arith, ltb-false}
-use Rattle.notation.specs.ChoiceLaws.{by_test}
+use Rattle.std.specs.Prelude.{ℕ, ◌≡◌, true, List}
 use Rattle.refusals.specs.Refusals.{accepted}
 use Rattle.events.specs.declared.Event.{Event}
 use Rattle.debray_allocator.specs.declared.State.{State}
-use Rattle.debray_allocator.specs.declared.Answer.{Answer}
 use Rattle.debray_allocator.specs.State.{fresh_state}
-use Rattle.debray_allocator.specs.DebrayAllocator.{refused_with, acted, unless_refused, stepped}
+use Rattle.debray_allocator.specs.DebrayAllocator.{stepped}
 use Rattle.valid_states.specs.ValidStates.{is_valid}
-use Rattle.valid_states.specs.ValidStatesLaws.{fresh_valid}
 use Rattle.valid_stays.specs.Fits.{Full}
 
 -- a state is reachable if it is a fresh clause's (rule 6.2), or what a line that is not refused leaves of a reachable one

@@ -32,7 +32,7 @@ use Rattle.valid_stays.proofs.RecordsFit.{record_fits}
 use Rattle.valid_stays.proofs.TablesFit.{mapped_at_lem, named-temporary}
 use Rattle.valid_stays.proofs.OfEvacuation.{EvacuationValid}
 use Rattle.valid_stays.proofs.OfReservedVar.{others_out_valid}
-use Rattle.refusals_given.specs.OfRecordMarks.{Settled, GoesOn, GoesSafely, argument_goes, subterm_goes, safe_goes, remembered_goes, SettledIn, settled_at, settled_placed}
+use Rattle.refusals_given.proofs.OfRecordMarks.{Settled, GoesOn, GoesSafely, argument_goes, subterm_goes, safe_goes, remembered_goes, SettledIn, settled_at, settled_placed}
 
 -- P holds of what a step is given
 module _ (P : ℕ → Type 0) where

@@ -29,10 +29,10 @@ use Rattle.event_calls.specs.FoldLaws.{line_reachable}
 use Rattle.invariants.specs.Lists.{All}
 use Rattle.valid_stays.specs.Fits.{Full}
 use Rattle.valid_stays.proofs.FromTests.{kinds_of, valid_small, valid_fits}
-use Rattle.valid_stays.specs.Reachable.{Reachable}
-use Rattle.valid_stays.proofs.ReachableLaws.{fresh, reachable_full, reachable_valid}
+use Rattle.valid_stays.specs.Reachable.{Reachable, fresh}
+use Rattle.valid_stays.proofs.ReachableLaws.{reachable_full, reachable_valid}
 use Rattle.refusals_given.specs.Given.{refusals_of}
-use Rattle.refusals_given.specs.OfSteps.{Row, stepped_given}
+use Rattle.refusals_given.proofs.OfSteps.{Row, stepped_given}
 
 -- ---- A line whose form is right
 

@@ -10,8 +10,8 @@ use Rattle.answered.specs.Answered.{filled_by}
 use Rattle.steps.specs.declared.CheckLine.{CheckLine}
 use Rattle.check_sheets.specs.CheckSheets.{reads, reading, accepted_text, rejected_text, word_of, roomed, answered_by, answered, filled, Tells, ByVerdict}
 use Rattle.check_exactly.specs.Exactly.{AllRead}
-use Rattle.check_exactly.specs.ReadingLaws.{reads_exactly}
-use Rattle.check_exactly.specs.RefusedLaws.{short_answered}
+use Rattle.check_exactly.proofs.ReadingLaws.{reads_exactly}
+use Rattle.check_exactly.proofs.RefusedLaws.{short_answered}
 use Rattle.check_exactly.specs.Judges.{Shows, Judges}
 
 -- ---- The words tell the verdict

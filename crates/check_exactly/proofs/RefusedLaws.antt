@@ -19,8 +19,8 @@ use Rattle.check_lines.specs.declared.Line.TheVariants.{Malformed}
 use Rattle.check_lines.specs.CheckLines.{line_says}
 use Rattle.check_sheets.specs.CheckSheets.{Reading, bad, reads, reading, word_of, roomed, answered_by, answered}
 use Rattle.check_exactly.specs.Exactly.{LineThat, LineAt, UnendedAt, UncalledAt, FirstBad, IsRead, SaysThat, OutOfOrder, OutOfSize, TooMany, GivenBy}
-use Rattle.check_exactly.specs.LineRefusedLaws.{By, form_by, order_by, size_by, full_by, bad_given}
-use Rattle.check_exactly.specs.ReadingLaws.{bad_exactly, reads_exactly}
+use Rattle.check_exactly.proofs.LineRefusedLaws.{By, form_by, order_by, size_by, full_by, bad_given}
+use Rattle.check_exactly.proofs.ReadingLaws.{bad_exactly, reads_exactly}
 
 -- ---- The answer to a sheet that is short enough
 

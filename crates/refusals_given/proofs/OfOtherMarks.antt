@@ -25,8 +25,8 @@ use Rattle.marks.specs.declared.Marked.{Marked}
 use Rattle.other_marks.specs.OtherMarks.{MarkOf, CutOf, emptied_in, turn_taken, marked_at, instructed_at, is_argument}
 use Rattle.other_marks.specs.OtherMarks.{anon_argument, anon_placed, anon_chosen, anon_marked, term_chosen, term_marked, cell_marked, non_var_argument, non_var_marked}
 use Rattle.other_marks.specs.OtherMarks.{slot_cut_by, slot_cut, register_cut_by, register_cut, cut_as, cut_marked}
-use Rattle.refusals_given.specs.OfReservedVar.{EvacuationGiven, advanced_given, evacuated_given}
-use Rattle.refusals_given.specs.OfMarkVar.{PlacementGiven, perm_placed_given}
+use Rattle.refusals_given.proofs.OfReservedVar.{EvacuationGiven, advanced_given, evacuated_given}
+use Rattle.refusals_given.proofs.OfMarkVar.{PlacementGiven, perm_placed_given}
 
 module _ (P : ℕ → Type 0) where
   abbrev MarkedGiven : Marked → Type 0

@@ -18,9 +18,9 @@ use Rattle.invariants.specs.Lists.{All}
 use Rattle.invariants.specs.OfEvents.{unrefused_in_size}
 use Rattle.valid_stays.specs.Fits.{Kinds, StateFits}
 use Rattle.refusals_given.specs.Given.{refusals_of, carrying_refusals}
-use Rattle.refusals_given.specs.OfMarkVar.{var_marked_given, freed_given}
-use Rattle.refusals_given.specs.OfOtherMarks.{anon_marked_given, non_var_marked_given, cut_marked_given}
-use Rattle.refusals_given.specs.OfEvents.{unrefused_not_full, neither_second, before_given, perm_recorded_given, temp_recorded_given, give_given, incremented_given, open_given, arm_given, safe_given, close_given, take_given}
+use Rattle.refusals_given.proofs.OfMarkVar.{var_marked_given, freed_given}
+use Rattle.refusals_given.proofs.OfOtherMarks.{anon_marked_given, non_var_marked_given, cut_marked_given}
+use Rattle.refusals_given.proofs.OfEvents.{unrefused_not_full, neither_second, before_given, perm_recorded_given, temp_recorded_given, give_given, incremented_given, open_given, arm_given, safe_given, close_given, take_given}
 
 -- P holds of 0 and of a row
 abbrev pub Row : (ℕ → Type 0) → Event → Type 0

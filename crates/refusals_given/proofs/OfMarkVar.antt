@@ -44,8 +44,8 @@ use Rattle.valid_stays.specs.Fits.{Kinds, AllocFits, Valid, Uses}
 use Rattle.valid_stays.proofs.RecordsFit.{record_fits}
 use Rattle.valid_stays.proofs.OfAllocation.{PlacementValid, slot_given_valid, perm_placed_valid}
 use Rattle.valid_stays.proofs.OfMarkVar.{RegisterValid, register_placed_valid}
-use Rattle.refusals_given.specs.OfRecordMarks.{Settled, SettledIn, settled_in, settled_at, settled-put}
-use Rattle.refusals_given.specs.OfReservedVar.{EvacuationGiven, EvacuationSettled, subterm_made_given, evacuated_given, evacuated-settled, argument_marked_given}
+use Rattle.refusals_given.proofs.OfRecordMarks.{Settled, SettledIn, settled_in, settled_at, settled-put}
+use Rattle.refusals_given.proofs.OfReservedVar.{EvacuationGiven, EvacuationSettled, subterm_made_given, evacuated_given, evacuated-settled, argument_marked_given}
 
 -- ---- A place
 

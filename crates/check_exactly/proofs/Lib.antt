@@ -1,0 +1,4 @@
+pub mod ReadingLaws
+pub mod LineRefusedLaws
+pub mod RefusedLaws
+pub mod JudgesLaws

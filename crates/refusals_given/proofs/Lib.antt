@@ -1,0 +1,9 @@
+pub mod CarriedExactlyLaws
+pub mod OfRecordMarks
+pub mod OfReservedVar
+pub mod OfMarkVar
+pub mod OfOtherMarks
+pub mod OfEvents
+pub mod OfSteps
+pub mod RefusalsGiven
+pub mod ExactlyLaws
