@@ -1,8 +1,2 @@
 pub mod Exactly
-pub mod TestsLaws
-pub mod ReadBackLaws
-pub mod RefusedLaws
-pub mod AloneLaws
-pub mod PrintedLaws
-pub mod OneClauseLaws
-pub mod EdgeLaws
+pub mod OneClause

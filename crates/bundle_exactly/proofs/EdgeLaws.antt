@@ -13,7 +13,7 @@ use Rattle.answered.specs.declared.Answered.TheVariants.{Refused}
 use Rattle.event_sheets.specs.EventSheets.{max_reg_allocated, last_ran, ran, sheet_ran}
 use Rattle.bundles.specs.Bundles.{sheet_of, ran_text, clause_text, clause_texts, answered}
 use Rattle.bundle_exactly.specs.Exactly.{no_clause, are_bodies, bundle_of, Fits, AnsweredWith, empties, empty_texts}
-use Rattle.bundle_exactly.specs.AloneLaws.{bodies_texts, bodies_roomless}
+use Rattle.bundle_exactly.proofs.AloneLaws.{bodies_texts, bodies_roomless}
 
 -- the empty bundle prints nothing
 pub empty-answered : (out : List ℕ) → AnsweredWith [] out []

@@ -21,8 +21,8 @@ use Rattle.bundle_exactly.specs.Exactly.{
   AnsweredWith,
   around,
 }
-use Rattle.bundle_exactly.specs.ReadBackLaws.{bodies_read, bodies_bundle}
-use Rattle.bundle_exactly.specs.RefusedLaws.{length_exactly, room_exactly, written_exactly, written-filled}
+use Rattle.bundle_exactly.proofs.ReadBackLaws.{bodies_read, bodies_bundle}
+use Rattle.bundle_exactly.proofs.RefusedLaws.{length_exactly, room_exactly, written_exactly, written-filled}
 
 -- ---- What bodies are answered with
 

@@ -23,7 +23,7 @@ use Rattle.bundles.specs.LinesLaws.{
   stray_none,
 }
 use Rattle.bundle_exactly.specs.Exactly.{Body, no_clause, are_bodies, bundle_of, MadeOf, IsBundle}
-use Rattle.bundle_exactly.specs.TestsLaws.{unended_no, stray_no, more_no}
+use Rattle.bundle_exactly.proofs.TestsLaws.{unended_no, stray_no, more_no}
 
 -- ---- The lines of a bundle that is made of bodies
 

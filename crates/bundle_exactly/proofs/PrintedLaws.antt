@@ -50,8 +50,8 @@ use Rattle.event_sheets.specs.EventSheets.{
 use Rattle.bundles.specs.Bundles.{lines_of, clauses, sheet_of, ran_text, clause_text, clause_texts, is_unended, answered, filled}
 use Rattle.bundles.specs.LinesLaws.{lines_sheet, sheet_append, sheet-ended}
 use Rattle.bundle_exactly.specs.Exactly.{Body, bundle_text, NoAtZero, EndsAnswer, Each, EndsOnce}
-use Rattle.bundle_exactly.specs.ReadBackLaws.{free_append}
-use Rattle.bundle_exactly.specs.RefusedLaws.{written_exactly, written-filled}
+use Rattle.bundle_exactly.proofs.ReadBackLaws.{free_append}
+use Rattle.bundle_exactly.proofs.RefusedLaws.{written_exactly, written-filled}
 
 -- ---- The line of a refusal
 

@@ -30,7 +30,7 @@ use Rattle.bundle_exactly.specs.Exactly.{
   written,
   GivenToBundles,
 }
-use Rattle.bundle_exactly.specs.TestsLaws.{unended_exactly, unended_no, stray_exactly, stray_no, more_exactly, more_no}
+use Rattle.bundle_exactly.proofs.TestsLaws.{unended_exactly, unended_no, stray_exactly, stray_no, more_exactly, more_no}
 
 -- ---- What is due is given
 

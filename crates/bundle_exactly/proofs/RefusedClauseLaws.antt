@@ -1,0 +1,62 @@
+-- Rules 18.4, 18.7: a clause whose event sheet is refused at a line prints its `no` line and nothing else.
+use Rattle.std.specs.Prelude.{ℕ, ◌≤◌, ◌<◌, ◌≡◌, true, false, ltb, length}
+use Rattle.std.proofs.Math.Path.{refl, ap, ap₂, sym}
+use Rattle.std.proofs.Common.{subst, ◌∙◌, arith, ltb-true, le-ltb}
+use mathlib.Core.List.{List, [], ◌∷◌}
+use Rattle.std.proofs.Math.ListN.{length-append}
+use Rattle.notation.specs.ChoiceLaws.{either}
+use Rattle.refusals.specs.Refusals.{refused_room}
+use Rattle.sizes.specs.Sizes.{sheet_bytes}
+use Rattle.split.specs.Split.{line_feed}
+use Rattle.answered.specs.declared.Answered.{Answered}
+use Rattle.answered.specs.declared.Answered.TheVariants.{Written, Refused}
+use Rattle.answered.specs.Answered.{filled_by, refusal_text}
+use Rattle.answered.specs.NumberLaws.{line_in, refusal_in}
+use Rattle.event_sheets.specs.EventSheets.{Ran, sheet_ran, answered_by, answered as sheet_answered, filled as sheet_filled}
+use Rattle.bundles.specs.Bundles.{clause_word, sheet_of, ran_text, clause_text, clause_texts, all_ran, bundle_ran, answered, filled}
+use Rattle.bundle_exactly.specs.Exactly.{Body, are_bodies, bundle_of, AnsweredWith}
+use Rattle.bundle_exactly.proofs.ReadBackLaws.{bodies_bundle}
+use Rattle.bundle_exactly.proofs.RefusedLaws.{bundle_ran_lem}
+use Rattle.bundle_exactly.proofs.AloneLaws.{text-read, text-one, bodies_texts, bodies_roomless}
+use Rattle.bundle_exactly.proofs.PrintedLaws.{clause_line_positive}
+use Rattle.bundle_exactly.specs.OneClause.{sheet, run, bundle}
+
+module _ (r : Ran) (room : ℕ) where
+  -- a run that is not refused is answered by its text alone
+  pub accepted_alike : ltb 0 r.refusal ≡ false → answered_by (all_ran r.text) room ≡ answered_by r room
+  unfolding answered_by
+  accepted_alike e = simp e
+
+  pub accepted-whole : ltb 0 r.refusal ≡ false → line_in (answered_by r room) ≡ 0
+  unfolding answered_by
+  accepted-whole e = simp e (either (λ (a : Answered). line_in a ≡ 0) (ltb room (length r.text)) refl refl)
+
+  refused_alike : ltb 0 r.refusal ≡ true → answered_by r room ≡ Refused r.line r.refusal
+  unfolding answered_by
+  refused_alike e = simp e
+
+module _ (body : Body) where
+  module _ (fits : length (sheet body) ≤ sheet_bytes) where
+    pub sheet-by-run : (room : ℕ) → sheet_answered (sheet body) room ≡ answered_by (run body) room
+    unfolding sheet_answered
+    sheet-by-run room = simp (le-ltb sheet_bytes (length (sheet body)) fits)
+
+    module _ (e : ltb 0 (run body).refusal ≡ true) where
+      pub refused-sheet : (room : ℕ) → sheet_answered (sheet body) room ≡ Refused (run body).line (run body).refusal
+      refused-sheet room = sheet-by-run room ∙ refused_alike (run body) room e
+
+      refused-text : clause_text body ≡ refusal_text (run body).line (run body).refusal
+      unfolding clause_text ran_text
+      refused-text = simp e
+
+    -- rules 18.4, 18.7: where the sheet is refused at a line, the clause prints its `no` line and nothing else, also among others
+    pub refused_costs_its_line :
+        (room : ℕ) {number refusal : ℕ} → 1 ≤ number → sheet_answered (sheet body) room ≡ Refused number refusal
+        → clause_text body ≡ refusal_text number refusal
+    refused_costs_its_line room {number} {refusal} some h =
+        elim (ltb 0 (run body).refusal) as (λ t. ltb 0 (run body).refusal ≡ t → clause_text body ≡ refusal_text number refusal) [
+          | true ↦ λ e. (let alike = sym (refused-sheet e room) ∙ h in
+              refused-text e ∙ ap₂ refusal_text (ap line_in alike) (ap refusal_in alike))
+          | false ↦ λ e. absurd (omega (arith, accepted-whole (run body) room e, ap line_in (sym (sheet-by-run room) ∙ h)))
+        ]
+        refl
