@@ -23,7 +23,7 @@ use Rattle.symbolic.specs.Names.{place_name, step_name, place_cells, call_name, 
 use Rattle.symbolic.specs.Symbolic.{pushed, listed, Doing, doing, held, put, did, spoilt_up_to}
 use Rattle.symbolic.specs.TablesLaws.{length-spoilt}
 use Rattle.on_names.specs.OnNames.{both, named}
-use Rattle.on_names.specs.PairsLaws.{snoc_map, Table, table_more, listed-pushed, table-pushed, labelled_pushed}
+use Rattle.on_names.proofs.PairsLaws.{snoc_map, Table, table_more, listed-pushed, table-pushed, labelled_pushed}
 
 -- ---- Places and their names
 

@@ -11,7 +11,7 @@ use Rattle.classes.specs.Forces.{Holds}
 use Rattle.symbolic.specs.Symbolic.{listed, all_accepted}
 use Rattle.on_names.specs.OnNames.{both, first, second, symbols_of, RightUnder, RightOnNames}
 use Rattle.on_names.proofs.StandsLaws.{Stands, sheet_stands}
-use Rattle.on_names.specs.ChoiceLaws.{Agrees, entry_of, number_of, left_by_of, values_agree, chosen, chosen_agrees}
+use Rattle.on_names.proofs.ChoiceLaws.{Agrees, entry_of, number_of, left_by_of, values_agree, chosen, chosen_agrees}
 
 -- ---- Pairs that hold
 

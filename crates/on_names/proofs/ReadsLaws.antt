@@ -12,7 +12,7 @@ use Rattle.machine.specs.Machine.{Contents}
 use Rattle.symbolic.specs.Names.{pair_cells}
 use Rattle.symbolic.specs.Symbolic.{Pairs, pairs, pushed, listed, held, claimed}
 use Rattle.on_names.specs.OnNames.{first, second}
-use Rattle.on_names.specs.PairsLaws.{map-append, snoc_map, Table, table_more, table_exact, table_none, listed-pushed, table-pushed}
+use Rattle.on_names.proofs.PairsLaws.{map-append, snoc_map, Table, table_more, table_exact, table_none, listed-pushed, table-pushed}
 use Rattle.on_names.proofs.ActsLaws.{Places}
 
 -- ---- The arguments of a goal

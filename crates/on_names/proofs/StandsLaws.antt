@@ -29,10 +29,10 @@ use Rattle.machine.specs.Wanted.{wanted as wanted_of}
 use Rattle.symbolic.specs.Names.{place_name, step_name, place_cells, call_name, no_name, pair_cells}
 use Rattle.symbolic.specs.Symbolic.{listed, doing, spoilt_at, Symbols, wanted, claimed_at, carried, no_pairs, fresh_symbols, all_accepted, carried_all}
 use Rattle.on_names.specs.OnNames.{both, named, first, second, symbols_of}
-use Rattle.on_names.specs.ChoiceLaws.{Agrees, values_agree}
-use Rattle.on_names.specs.PairsLaws.{Table, table_more, table-fresh}
+use Rattle.on_names.proofs.ChoiceLaws.{Agrees, values_agree}
+use Rattle.on_names.proofs.PairsLaws.{Table, table_more, table-fresh}
 use Rattle.on_names.proofs.ActsLaws.{place_name_lem, Places, AllLabelled, places_spoilt, Acts, acts_more, does_stands, does_labelled}
-use Rattle.on_names.specs.AsksLaws.{value_stands, Asks, offers, wants_stands}
+use Rattle.on_names.proofs.AsksLaws.{value_stands, Asks, offers, wants_stands}
 use Rattle.on_names.proofs.ReadsLaws.{register, Reads, reads_same, reads_argument, reads_call}
 
 -- ---- What stands between lines

@@ -1,4 +1,1 @@
 pub mod OnNames
-pub mod ChoiceLaws
-pub mod PairsLaws
-pub mod AsksLaws

@@ -19,8 +19,8 @@ use Rattle.classes.specs.Classes.{in_names}
 use Rattle.symbolic.specs.Names.{place_name, step_name, no_name, pair_cells}
 use Rattle.symbolic.specs.Symbolic.{Pairs, pushed, listed, Wanting, value_of, again, wanted}
 use Rattle.on_names.specs.OnNames.{both, named}
-use Rattle.on_names.specs.ChoiceLaws.{Agrees}
-use Rattle.on_names.specs.PairsLaws.{snoc_map, Table, table_more, listed-pushed, table-pushed, labelled_pushed}
+use Rattle.on_names.proofs.ChoiceLaws.{Agrees}
+use Rattle.on_names.proofs.PairsLaws.{snoc_map, Table, table_more, listed-pushed, table-pushed, labelled_pushed}
 
 -- ---- The name in the place of a variable's value
 
