@@ -1,18 +1,16 @@
 -- Rules 18.2, 18.4: a bundle of one clause prints what the event sheet of its lines prints, or its `no` line.
 use Rattle.std.specs.Prelude.{ℕ, ◌≤◌, ◌<◌, ◌≡◌, true, false, ltb, length}
 use Rattle.std.proofs.Math.Path.{refl, ap, ap₂, sym}
-use Rattle.std.proofs.Common.{subst, ◌∙◌, arith, ltb-true, le-ltb}
+use Rattle.std.proofs.Common.{subst, ◌∙◌, arith, ltb-true}
 use mathlib.Core.List.{List, [], ◌∷◌}
 use Rattle.std.proofs.Math.ListN.{length-append}
-use Rattle.notation.specs.ChoiceLaws.{either}
 use Rattle.refusals.specs.Refusals.{refused_room}
 use Rattle.sizes.specs.Sizes.{sheet_bytes}
 use Rattle.split.specs.Split.{line_feed}
-use Rattle.answered.specs.declared.Answered.{Answered}
 use Rattle.answered.specs.declared.Answered.TheVariants.{Written, Refused}
 use Rattle.answered.specs.Answered.{filled_by, refusal_text}
-use Rattle.answered.specs.NumberLaws.{line_in, refusal_in}
-use Rattle.event_sheets.specs.EventSheets.{Ran, sheet_ran, answered_by, answered as sheet_answered, filled as sheet_filled}
+use Rattle.answered.specs.NumberLaws.{line_in}
+use Rattle.event_sheets.specs.EventSheets.{answered_by, answered as sheet_answered, filled as sheet_filled}
 use Rattle.bundles.specs.Bundles.{clause_word, sheet_of, ran_text, clause_text, clause_texts, all_ran, bundle_ran, answered, filled}
 use Rattle.bundle_exactly.specs.Exactly.{Body, are_bodies, bundle_of, AnsweredWith}
 use Rattle.bundle_exactly.proofs.ReadBackLaws.{bodies_bundle}

@@ -1,25 +1,17 @@
 -- Rules 18.4, 18.7: a clause whose event sheet is refused at a line prints its `no` line and nothing else.
-use Rattle.std.specs.Prelude.{ℕ, ◌≤◌, ◌<◌, ◌≡◌, true, false, ltb, length}
+use Rattle.std.specs.Prelude.{ℕ, ◌≤◌, ◌≡◌, true, false, ltb, length}
 use Rattle.std.proofs.Math.Path.{refl, ap, ap₂, sym}
-use Rattle.std.proofs.Common.{subst, ◌∙◌, arith, ltb-true, le-ltb}
-use mathlib.Core.List.{List, [], ◌∷◌}
-use Rattle.std.proofs.Math.ListN.{length-append}
+use Rattle.std.proofs.Common.{◌∙◌, arith, le-ltb}
 use Rattle.notation.specs.ChoiceLaws.{either}
-use Rattle.refusals.specs.Refusals.{refused_room}
 use Rattle.sizes.specs.Sizes.{sheet_bytes}
-use Rattle.split.specs.Split.{line_feed}
 use Rattle.answered.specs.declared.Answered.{Answered}
-use Rattle.answered.specs.declared.Answered.TheVariants.{Written, Refused}
-use Rattle.answered.specs.Answered.{filled_by, refusal_text}
+use Rattle.answered.specs.declared.Answered.TheVariants.{Refused}
+use Rattle.answered.specs.Answered.{refusal_text}
 use Rattle.answered.specs.NumberLaws.{line_in, refusal_in}
-use Rattle.event_sheets.specs.EventSheets.{Ran, sheet_ran, answered_by, answered as sheet_answered, filled as sheet_filled}
-use Rattle.bundles.specs.Bundles.{clause_word, sheet_of, ran_text, clause_text, clause_texts, all_ran, bundle_ran, answered, filled}
-use Rattle.bundle_exactly.specs.Exactly.{Body, are_bodies, bundle_of, AnsweredWith}
-use Rattle.bundle_exactly.proofs.ReadBackLaws.{bodies_bundle}
-use Rattle.bundle_exactly.proofs.RefusedLaws.{bundle_ran_lem}
-use Rattle.bundle_exactly.proofs.AloneLaws.{text-read, text-one, bodies_texts, bodies_roomless}
-use Rattle.bundle_exactly.proofs.PrintedLaws.{clause_line_positive}
-use Rattle.bundle_exactly.specs.OneClause.{sheet, run, bundle}
+use Rattle.event_sheets.specs.EventSheets.{Ran, answered_by, answered as sheet_answered}
+use Rattle.bundles.specs.Bundles.{ran_text, clause_text, all_ran}
+use Rattle.bundle_exactly.specs.Exactly.{Body}
+use Rattle.bundle_exactly.specs.OneClause.{sheet, run}
 
 module _ (r : Ran) (room : ℕ) where
   -- a run that is not refused is answered by its text alone

@@ -1,7 +1,7 @@
 -- When a refusal is given, both ways (rule 25.3). To a line in a valid state: rules 4.1 to 4.3, and rule 4.7 of events that
 -- fill nothing while they are carried out (of the others see CarriedExactly). To a sheet as a whole: rule 4.10. To a call: its
 -- state, its length and its form, rules 17.3, 17.4, 17.6.
-use Rattle.std.specs.Prelude.{ℕ, suc, ◌≤◌, ◌<◌, ◌≢◌, ◌↔◌, Bool, true, ◌&&◌, not, ltb}
+use Rattle.std.specs.Prelude.{ℕ, suc, ◌≤◌, ◌<◌, ◌≢◌, ◌↔◌, true, not, ltb}
 use Rattle.std.proofs.Math.Path.{◌≡◌, refl, ap}
 use Rattle.std.proofs.Common.{sym, ◌∙◌, arith}
 use Rattle.std.proofs.Math.Bool.{false}
@@ -14,7 +14,7 @@ use Rattle.sizes.specs.Sizes.{sheet_bytes}
 use Rattle.split.specs.Split.{line_feed, split}
 use Rattle.events.specs.declared.Event.{Event}
 use Rattle.events.specs.declared.Event.TheVariants.{Temp, Perm, Sets, Head, Args, Var, Anon, NonVar, Cut, Incr, Free, Safe, Give, Tail, Next, Open, Arm, Take, Close, Reset, Contents, ClearFree}
-use Rattle.events.specs.Events.{in_size, is_full, is_record, refusal_by_size, refusal_before}
+use Rattle.events.specs.Events.{refusal_by_size, refusal_before}
 use Rattle.event_lines.specs.declared.Line.{Line}
 use Rattle.event_lines.specs.declared.Line.TheVariants.{Malformed, Says}
 use Rattle.event_lines.specs.EventLines.{line_says, line_list}

@@ -1,38 +1,20 @@
 -- When a refusal is given, both ways (rule 25.3). To a line in a valid state: rules 4.1 to 4.3, and rule 4.7 of events that
 -- fill nothing while they are carried out (of the others see CarriedExactly). To a sheet as a whole: rule 4.10. To a call: its
 -- state, its length and its form, rules 17.3, 17.4, 17.6.
-use Rattle.std.specs.Prelude.{ℕ, suc, ◌≤◌, ◌<◌, ◌≢◌, ◌↔◌, Bool, true, ◌&&◌, not, ltb}
-use Rattle.std.proofs.Math.Path.{◌≡◌, refl, ap}
-use Rattle.std.proofs.Common.{sym, ◌∙◌, arith}
-use Rattle.std.proofs.Math.Bool.{false}
+use Rattle.std.specs.Prelude.{ℕ, ◌≤◌, ◌<◌, Bool, true, ◌&&◌, ltb}
+use Rattle.std.proofs.Math.Path.{◌≡◌}
 use mathlib.Core.List.{List, [], ◌∷◌}
 use Rattle.std.proofs.Math.ListN.{length}
-use borrow.Author.Tests.{ltb-true, ltb-false, lt-ltb, le-ltb, not-true, not-false}
-use Rattle.notation.specs.ChoiceLaws.{either, by_test}
-use Rattle.refusals.specs.Refusals.{accepted, refused_form, refused_order, refused_size, refused_stop, refused_register, refused_slot, refused_full, refused_room}
+use Rattle.refusals.specs.Refusals.{accepted}
 use Rattle.sizes.specs.Sizes.{sheet_bytes}
-use Rattle.split.specs.Split.{line_feed, split}
 use Rattle.events.specs.declared.Event.{Event}
 use Rattle.events.specs.declared.Event.TheVariants.{Temp, Perm, Sets, Head, Args, Var, Anon, NonVar, Cut, Incr, Free, Safe, Give, Tail, Next, Open, Arm, Take, Close, Reset, Contents, ClearFree}
-use Rattle.events.specs.Events.{in_size, is_full, is_record, refusal_by_size, refusal_before}
-use Rattle.event_lines.specs.declared.Line.{Line}
-use Rattle.event_lines.specs.declared.Line.TheVariants.{Malformed, Says}
-use Rattle.event_lines.specs.EventLines.{line_says, line_list}
+use Rattle.events.specs.Events.{in_size, is_full, is_record}
+use Rattle.event_lines.specs.declared.Line.TheVariants.{Malformed}
+use Rattle.event_lines.specs.EventLines.{line_says}
 use Rattle.debray_allocator.specs.declared.State.{State}
-use Rattle.debray_allocator.specs.declared.Answer.{Answer}
-use Rattle.debray_allocator.specs.State.{fresh_state}
-use Rattle.debray_allocator.specs.DebrayAllocator.{refused_with, acted, unless_refused, stepped}
-use Rattle.answers.specs.Answers.{text_of}
-use Rattle.answered.specs.declared.Answered.{Answered}
-use Rattle.answered.specs.declared.Answered.TheVariants.{Refused}
-use Rattle.answered.specs.NumberLaws.{line_in, refusal_in}
-use Rattle.event_sheets.specs.EventSheets.{Ran, said_answer, line_answer, last_ran, line_ran, ran, sheet_ran, answered_by, answered}
+use Rattle.event_sheets.specs.EventSheets.{sheet_ran}
 use Rattle.valid_states.specs.ValidStates.{is_valid}
-use Rattle.event_calls.specs.declared.Called.{Called}
-use Rattle.event_calls.specs.EventCalls.{parts_answer, bytes_answer, called_by, called}
-use Rattle.event_calls.specs.CallLaws.{called_valid, by-refused}
-use Rattle.valid_stays.specs.Fits.{Full}
-use Rattle.valid_stays.proofs.FromTests.{kinds_of, valid_small, valid_fits}
 
 -- nothing is full while the event is carried out
 abbrev pub FullOnlyBefore : Event → Type 0
