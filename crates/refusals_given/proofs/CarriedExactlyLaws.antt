@@ -35,7 +35,7 @@ use Rattle.debray_allocator.specs.declared.State.{State}
 use Rattle.debray_allocator.specs.declared.Acted.{Acted}
 use Rattle.debray_allocator.specs.declared.Answer.{Answer}
 use Rattle.debray_allocator.specs.DebrayAllocator.{carried_out, seen_after, refused_with, acted, unless_refused, stepped}
-use Rattle.refusals_given.specs.CarriedExactly.{no_open_branch, last_arm, level, cannot_close, is_pending}
+use Rattle.refusals_given.specs.CarriedExactly.{no_open_branch, last_arm, level, cannot_close, is_pending, joins_full}
 
 -- ---- What is given is what carrying it out is given
 
@@ -196,11 +196,6 @@ module _ (s : State) (list : List ℕ) where
       (v : ℕ) → refusal_before s.counters (Incr v) list ≤ accepted
       → ((stepped s (Incr v) list).refusal ≡ refused_full) ↔ (leb counts (record_at s.records v).running_count ≡ true)
   incr_full v unrefused = told_exactly s (Incr v) list unrefused refused_full (incr_carried v)
-
--- a permanent variable that is freed joins the queue
-abbrev pub joins_full : Counters → VarAlloc → Bool
-joins_full c (Temp context register safety to_perm) = false
-joins_full c (Perm slot allocation) = leb freed_slots c.freed_slots
 
 freed_as_lem :
     (allocation : VarAlloc) (c : Counters) (records list : List ℕ) (chunk v : ℕ)
