@@ -151,7 +151,7 @@ def changed(text, answer):
 def crates():
     """The crates with public functions, in the order of crates.txt."""
     lines = read(os.path.join(ROOT, "crates.txt")).split("\n")
-    names = [line.split(":")[0] for line in lines if ":" in line and not line.startswith("#")]
+    names = [line.split(":")[0].split()[0] for line in lines if ":" in line and not line.startswith("#")]
     codes = {name: os.path.join(ROOT, source(name)) for name in names}
     return [
         name
