@@ -34,7 +34,7 @@ NAMING = 2  # lines of an entry that name it in a failure
 FUNCTION = re.compile(r'^( *)(pub )?(?:extern "C" )?fn (\w+)')
 IMPLEMENTATION = re.compile(r"^impl (\w+) \{")
 COMMENT_OR_SPACE = re.compile(r"//.*|\s")
-ROWS = re.compile(r'(-- (\d+)\n)?    (?:∷ )?(?:(event|check)Sheet "(.*)" "(.*)"|noUse|conflict)')
+ROWS = re.compile(r'(-- (\d+)\n)?    (?:∷ )?(?:(event|check)_sheet "(.*)" "(.*)"|no_use|conflict)')
 WORDS = {"fn": "function", "in": "place", "must-fail": "must_fail", "says": "says", "program": "program"}
 OTHER_WORDS = ("old", "new", "sheet", "event", "bundle", "check", "state", "main", "prints")
 # What the prover's first error means. Only the first two name a fact that does not fit.
