@@ -56,7 +56,7 @@ def output(words, data=b""):
 
 def kit():
     """The toolchain's folder."""
-    return os.path.dirname(os.path.dirname(output(["rt", "doc"]).decode().strip()))
+    return os.path.dirname(output(["rt", "doc"]).decode().strip())
 
 
 def say(text):

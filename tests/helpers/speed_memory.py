@@ -14,7 +14,6 @@ import time
 from helpers.replaying import ROOT
 
 GIVEN = os.environ.get("SPEED_PROGRAMS")  # a folder; empty is as good as not set
-FOLDER = GIVEN or os.path.join(ROOT, "target", "bin")
 EMPTY = "#include <unistd.h>\nint main(void) { return write(1, \"\", 1) != 1; }\n"
 WRITE = "1"  # the system call's number on x86-64
 FOR_MEMORY = {"brk", "mmap", "mremap", "munmap"}
@@ -27,7 +26,7 @@ MEMORY_RUNS = 5  # the kernel maps more or fewer pages of the C library at a tim
 
 def path(name):
     """A program's file."""
-    return os.path.join(FOLDER, name)
+    return os.path.join(GIVEN, name) if GIVEN else os.path.join(ROOT, "crates", name, "out", name)
 
 
 @contextlib.contextmanager
