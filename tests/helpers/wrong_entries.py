@@ -21,12 +21,14 @@ import json
 import os
 import re
 import shutil
+import subprocess
 
 ROOT = os.path.dirname(os.path.dirname(os.path.dirname(os.path.abspath(__file__))))
 CRATES = os.path.join(ROOT, "crates")
 ENTRIES = os.path.join(ROOT, "tests", "wrong")
 RUN_RESULTS = os.path.join(ROOT, "target", "wrong_runs")
 INSTANCES = os.path.join(ROOT, "tests", "wrong_laws")
+PARTS = ("src", "specs", "proofs")  # of a crate, what the prover reads
 MUST_FAIL = "must-fail edit"  # what refuses a wrong answer that the gate tries
 ENOUGH = 2  # wrong answers of a public function
 CUT = 240  # characters of what the prover says
@@ -380,18 +382,19 @@ def meaning(error):
 # ---- A folder to change code in
 
 
-def lay_out(copied, folder):
-    """The repository in `folder`: the named crates as copies, the others and the proved libraries as links."""
-    os.makedirs(os.path.join(folder, "crates"), exist_ok=True)
-    os.makedirs(os.path.join(folder, "target"), exist_ok=True)
+def lay_out(folder):
+    """The repository in `folder`: crates.txt, and the crates as they stand here. What was built of them there stays."""
+    os.makedirs(folder, exist_ok=True)
     shutil.copy(os.path.join(ROOT, "crates.txt"), folder)
     for name in os.listdir(CRATES):
-        place = os.path.join(folder, "crates", name)
-        if os.path.islink(place):
-            os.remove(place)
-        elif os.path.isdir(place):
-            shutil.rmtree(place)
-        if name in copied:
-            shutil.copytree(os.path.join(CRATES, name), place)
-        else:
-            os.symlink(os.path.join(CRATES, name), place)
+        for part in PARTS:
+            given, place = os.path.join(CRATES, name, part), os.path.join(folder, "crates", name, part)
+            shutil.rmtree(place, ignore_errors=True)
+            if os.path.isdir(given):
+                shutil.copytree(given, place)
+
+
+def command(words, crate, folder, given=""):
+    """A finished command of the toolchain in a crate of `folder`."""
+    place = os.path.join(folder, "crates", crate)
+    return subprocess.run(["rt", *words], cwd=place, input=given, capture_output=True, text=True)
