@@ -14,6 +14,7 @@ import types
 
 ROOT = os.path.dirname(os.path.dirname(os.path.dirname(os.path.abspath(__file__))))
 CONSTANT = re.compile(r"^pub const (\w+): \w+ = ([\d_]+);$", re.MULTILINE)
+NUMBERED = re.compile(r"^ +Refusal::(\w+) => (\d+),$", re.MULTILINE)
 WORD = re.compile(r'bytes "([^"]*)"')
 
 
@@ -66,13 +67,24 @@ def constants(crate):
 
 
 SIZES = types.SimpleNamespace(**constants("sizes"))
-REFUSALS = types.SimpleNamespace(**constants("refusals"))
+
+
+def refusals():
+    """The refusals by name, each with its number."""
+    text = source("refusals", "src", "lib.rt")
+    found = NUMBERED.findall(text)
+    if len(found) != text.count("Refusal::"):
+        raise ValueError("refusals: a refusal beside those with a number")
+    return {name.upper(): int(number) for name, number in found}
+
+
+REFUSALS = types.SimpleNamespace(**refusals())
 
 
 def refusal_numbers(names=(), but=()):
     """The numbers of the refusals of these names, or of all, but for those that are left out."""
     numbers = [getattr(REFUSALS, name) for name in names] or list(vars(REFUSALS).values())
-    return [number for number in numbers if number not in (REFUSALS.ACCEPTED, *but)]
+    return [number for number in numbers if number not in but]
 
 
 # ---- For a shell script

@@ -34,7 +34,7 @@ ENOUGH = 2  # wrong answers of a public function
 CUT = 240  # characters of what the prover says
 NAMING = 2  # lines of an entry that name it in a failure
 FUNCTION = re.compile(r'^( *)(pub )?(?:extern "C" )?fn (\w+)')
-IMPLEMENTATION = re.compile(r"^impl (\w+) \{")
+IMPLEMENTATION = re.compile(r"^impl\b([^{]* for)? (\w+) \{")
 COMMENT_OR_SPACE = re.compile(r"//.*|\s")
 ROWS = re.compile(r'(-- (\d+)\n)?    (?:∷ )?(?:(event|check)_sheet "(.*)" "(.*)"|no_use|conflict)')
 WORDS = {"fn": "function", "in": "place", "must-fail": "must_fail", "says": "says", "program": "program"}
@@ -113,15 +113,19 @@ def write(path, text):
 
 
 def functions(text):
-    """The functions of a crate by their names; one of an implementation is named behind its type."""
-    lines, found, type_name = text.split("\n"), {}, ""
+    """The functions of a crate by their names; one of an implementation is named behind its type, and is public where the
+    implementation is that of a trait."""
+    lines, found, type_name, of_trait = text.split("\n"), {}, "", False
     for at, line in enumerate(lines):
         opened = IMPLEMENTATION.match(line)
-        type_name = opened.group(1) + "::" if opened else "" if line == "}" else type_name
+        if opened or line == "}":
+            type_name, of_trait = (opened.group(2) + "::", bool(opened.group(1))) if opened else ("", False)
         match = FUNCTION.match(line)
         if match:
             name = type_name + match.group(3)
-            found[name] = Function(name, bool(match.group(2)), at, lines.index(match.group(1) + "}", at) + 1)
+            if name in found:
+                raise Failure(f"two functions are named {name}")
+            found[name] = Function(name, of_trait or bool(match.group(2)), at, lines.index(match.group(1) + "}", at) + 1)
     return found
 
 

@@ -1,5 +1,5 @@
 -- A place for a term.
-use Rattle.std.specs.Prelude.{ℕ, zero, suc, ◌+◌, ◌-◌, ◌%◌, List, ltb, get_or}
+use Rattle.std.specs.Prelude.{Option, Some, None, ℕ, zero, suc, ◌+◌, ◌-◌, ◌%◌, List, ltb, get_or}
 use Rattle.std.specs.Prelude.{if◌then◌else◌}
 use Rattle.sizes.specs.Sizes.{registers, freed_registers, freed_slots}
 use Rattle.refusals.specs.Refusals.{accepted, refused_slot}
@@ -10,12 +10,11 @@ use Rattle.variable_records.specs.declared.VarAlloc.TheVariants.{Perm}
 use Rattle.variable_records.specs.Records.{allocated, placed_at}
 use Rattle.variable_records.specs.Rows.{record_at, record_put}
 use Rattle.perm_free_list.specs.declared.Looked.{Looked}
+use Rattle.perm_free_list.specs.declared.Taken.{Taken}
 use Rattle.perm_free_list.specs.PermFreeList.{entries, looked}
 use Rattle.allocator_state.specs.declared.Counters.{Counters}
 use Rattle.allocator_state.specs.State.{counter_after}
 use Rattle.allocator_state.specs.Counters.{with_temp_lb, with_perm_lb, with_freed_registers, with_first_freed_slot, with_freed_slots, with_in_use}
-use Rattle.choice.specs.declared.Chosen.{Chosen}
-use Rattle.choice.specs.declared.Chosen.TheVariants.{Register, NoRegister}
 use Rattle.choice.specs.Choice.{in_use, least_outside}
 use Rattle.allocation.specs.declared.Popped.{Popped}
 use Rattle.allocation.specs.declared.NonVar.{NonVar}
@@ -25,16 +24,16 @@ use Rattle.allocation.specs.declared.Placed.{Placed}
 
 -- the freed registers from their end: those in use are dropped, and the first other one is taken
 unfoldable pub popped : Counters → List ℕ → ℕ → Popped
-popped c list zero = record { left = zero; chosen = NoRegister }
+popped c list zero = record { left = zero; chosen = None }
 popped c list (suc left) =
     if in_use c (get_or list (left % freed_registers) 0) then popped c list left
-    else record { left = left; chosen = Register (get_or list (left % freed_registers) 0) }
+    else record { left = left; chosen = Some (get_or list (left % freed_registers) 0) }
 
 abbrev pub with_popped : Counters → ℕ → ℕ → NonVar
 with_popped c left r =
     record {
       counters = with_in_use (inserted c.in_use r) (with_freed_registers left c);
-      chosen = Register r;
+      chosen = Some r;
     }
 
 -- the next search starts behind a register that was searched for, and all freed registers were dropped
@@ -42,17 +41,17 @@ abbrev pub with_searched : Counters → ℕ → NonVar
 with_searched c r =
     record {
       counters = with_in_use (inserted c.in_use r) (with_temp_lb (counter_after r) (with_freed_registers 0 c));
-      chosen = Register r;
+      chosen = Some r;
     }
 
-abbrev pub searched : Counters → Chosen → NonVar
-searched c (Register r) = with_searched c r
-searched c NoRegister = record { counters = c; chosen = NoRegister }
+abbrev pub searched : Counters → Option ℕ → NonVar
+searched c (Some r) = with_searched c r
+searched c None = record { counters = c; chosen = None }
 
 -- a freed register where one is taken, otherwise the least from `temp_lb` up that is not in the set
-abbrev pub non_var_by : Counters → ℕ → Chosen → NonVar
-non_var_by c left (Register r) = with_popped c left r
-non_var_by c left NoRegister = searched c (least_outside c)
+abbrev pub non_var_by : Counters → ℕ → Option ℕ → NonVar
+non_var_by c left (Some r) = with_popped c left r
+non_var_by c left None = searched c (least_outside c)
 
 unfoldable pub non_var : Counters → List ℕ → NonVar
 non_var c list = non_var_by c (popped c list c.freed_registers).left (popped c list c.freed_registers).chosen
@@ -90,11 +89,13 @@ new_slot c records v =
     placement (slot_given records v c.perm_lb) (placed_in (with_perm_lb (counter_after c.perm_lb) c) c.perm_lb)
 
 -- rules 10.1 and 10.3: the slot that the queue gives, its owner's becoming 0; otherwise the next slot
+abbrev pub slot_placed : Option Taken → Counters → List ℕ → ℕ → Placement
+slot_placed (Some taken) c records v =
+    placement (slot_given (slot_taken records taken.owner) v taken.slot) (placed_in c taken.slot)
+slot_placed None c records v = new_slot c records v
+
 unfoldable pub slot_found : Looked → Counters → List ℕ → ℕ → Placement
-slot_found found c records v =
-    if ltb 0 found.slot then
-    placement (slot_given (slot_taken records found.owner) v found.slot) (placed_in (without_front c found.dropped) found.slot)
-    else new_slot (without_front c found.dropped) records v
+slot_found found c records v = slot_placed found.taken (without_front c found.dropped) records v
 
 unfoldable pub perm_placed : Counters → List ℕ → List ℕ → ℕ → ℕ → Placement
 perm_placed c records list v chunk =

@@ -1,10 +1,9 @@
 -- Laws of freed registers, one at a time.
-use Rattle.std.specs.Prelude.{ℕ, suc, ◌-◌, ◌%◌, ◌<◌, ◌≤◌, ◌≡◌, true, false, List, get_or}
+use Rattle.std.specs.Prelude.{Some, None, ℕ, suc, ◌-◌, ◌%◌, ◌<◌, ◌≤◌, ◌≡◌, true, false, List, get_or}
 use Rattle.std.proofs.Math.Path.{ap}
 use Rattle.std.proofs.Common.{◌∙◌, arith}
 use Rattle.sizes.specs.Sizes.{freed_registers}
 use Rattle.allocator_state.specs.declared.Counters.{Counters}
-use Rattle.choice.specs.declared.Chosen.TheVariants.{Register, NoRegister}
 use Rattle.choice.specs.Choice.{in_use}
 use Rattle.allocation.specs.Allocation.{popped}
 
@@ -14,7 +13,7 @@ module _ (c : Counters) (list : List ℕ) (left : ℕ) (h : 0 < left) where
 
   pub popped-taken :
       in_use c (get_or list ((left - 1) % freed_registers) 0) ≡ false
-      → popped c list left ≡ record { left = left - 1; chosen = Register (get_or list ((left - 1) % freed_registers) 0) }
+      → popped c list left ≡ record { left = left - 1; chosen = Some (get_or list ((left - 1) % freed_registers) 0) }
   unfolding popped
   popped-taken e = ap (popped c list) one_less ∙ simp e
 
@@ -24,7 +23,7 @@ module _ (c : Counters) (list : List ℕ) (left : ℕ) (h : 0 < left) where
   popped_passed e = ap (popped c list) one_less ∙ simp e
 
 pub popped-none :
-    (c : Counters) (list : List ℕ) (left : ℕ) → left ≤ 0 → popped c list left ≡ record { left = left; chosen = NoRegister }
+    (c : Counters) (list : List ℕ) (left : ℕ) → left ≤ 0 → popped c list left ≡ record { left = left; chosen = None }
 unfolding popped
 popped-none c list left h =
     let e : left ≡ 0 = omega arith in

@@ -2,7 +2,7 @@
 // new one, for a permanent variable.
 #![tactic(auto)]
 
-ghost use Rattle.std.specs.Prelude.{◌≡◌, ◌-◌};
+ghost use Rattle.std.specs.Prelude.{◌≡◌};
 ghost use Rattle.allocation.specs.Allocation.{
   popped,
   non_var,
@@ -17,38 +17,37 @@ ghost use Rattle.allocation.specs.Allocation.{
 };
 
 use allocator_state::Counters;
-use choice::Chosen;
 use perm_free_list::PermFreeList;
+use refusals::Refusal;
 use sizes::{FREED_REGISTERS, FREED_SLOTS, LAST_REGISTER};
 use variable_records::{PermVarAllocation, Records, VarAlloc, VarSafetyStatus};
 
+// An array whose count is a counter, since a C host lends both.
 pub type TempFreeList = [u32; FREED_REGISTERS];
 
 // A freed register that is not in use, and how many freed registers are left.
 #[derive(Clone, Copy)]
 pub struct Popped {
     pub left: u32,
-    pub chosen: Chosen,
+    pub chosen: Option<u32>,
 }
 
 // Takes freed registers, the last first, until one is not in use.
 pub fn pop_freed(counters: Counters, list: &TempFreeList) -> Popped
     ensures { result ≡ popped counters list.now counters.freed_registers }
 {
-    let mut left = counters.freed_registers;
-    while 0 < left {
-        left -= 1;
+    for left in (0..counters.freed_registers).rev() {
         let r = list[(left % FREED_REGISTERS as u32) as usize];
         if !choice::is_in_use(counters, r) {
             return Popped {
                 left,
-                chosen: Chosen::Register(r),
+                chosen: Some(r),
             };
         }
     }
     Popped {
-        left,
-        chosen: Chosen::NoRegister,
+        left: 0,
+        chosen: None,
     }
 }
 
@@ -56,19 +55,21 @@ pub fn pop_freed(counters: Counters, list: &TempFreeList) -> Popped
 #[derive(Clone, Copy)]
 pub struct NonVar {
     pub counters: Counters,
-    pub chosen: Chosen,
+    pub chosen: Option<u32>,
 }
 
 // A freed register is taken out of the list and put in use.
 fn with_popped(counters: Counters, left: u32, r: u32) -> NonVar
     ensures { result ≡ with_popped counters left r }
 {
-    let mut taken = counters;
-    taken.freed_registers = left;
-    taken.in_use = bit_set::insert(counters.in_use, r);
+    let taken = Counters {
+        freed_registers: left,
+        in_use: bit_set::insert(counters.in_use, r),
+        ..counters
+    };
     NonVar {
         counters: taken,
-        chosen: Chosen::Register(r),
+        chosen: Some(r),
     }
 }
 
@@ -76,13 +77,15 @@ fn with_popped(counters: Counters, left: u32, r: u32) -> NonVar
 fn with_searched(counters: Counters, r: u32) -> NonVar
     ensures { result ≡ with_searched counters r }
 {
-    let mut taken = counters;
-    taken.freed_registers = 0;
-    taken.temp_lb = allocator_state::counter_after(r);
-    taken.in_use = bit_set::insert(counters.in_use, r);
+    let taken = Counters {
+        freed_registers: 0,
+        temp_lb: allocator_state::counter_after(r),
+        in_use: bit_set::insert(counters.in_use, r),
+        ..counters
+    };
     NonVar {
         counters: taken,
-        chosen: Chosen::Register(r),
+        chosen: Some(r),
     }
 }
 
@@ -91,27 +94,16 @@ pub fn alloc_reg_to_non_var(counters: Counters, list: &TempFreeList) -> NonVar
     ensures { result ≡ non_var counters list.now }
 {
     let popped = pop_freed(counters, list);
-    let freed = popped.chosen;
-    match freed {
-        Chosen::Register(r) => with_popped(counters, popped.left, r),
-        Chosen::NoRegister => {
-            let searched = choice::least_outside(counters);
-            match searched {
-                Chosen::Register(r) => with_searched(counters, r),
-                Chosen::NoRegister => NonVar {
-                    counters,
-                    chosen: Chosen::NoRegister,
-                },
-            }
-        }
+    if let Some(r) = popped.chosen {
+        return with_popped(counters, popped.left, r);
     }
-}
-
-// A difference that stops at 0.
-fn minus(n: u32, m: u32) -> u32
-    ensures { result ≡ n - m }
-{
-    if m <= n { n - m } else { 0 }
+    match choice::least_outside(counters) {
+        Some(r) => with_searched(counters, r),
+        None => NonVar {
+            counters,
+            chosen: None,
+        },
+    }
 }
 
 // The queue of freed slots without so many entries at its front.
@@ -119,10 +111,11 @@ fn without_front(counters: Counters, dropped: u32) -> Counters
     ensures { result ≡ without_front counters dropped }
 {
     let entries = FREED_SLOTS as u32;
-    let mut left = counters;
-    left.first_freed_slot = (counters.first_freed_slot % entries + dropped % entries) % entries;
-    left.freed_slots = minus(counters.freed_slots, dropped);
-    left
+    Counters {
+        first_freed_slot: (counters.first_freed_slot % entries + dropped % entries) % entries,
+        freed_slots: counters.freed_slots.saturating_sub(dropped),
+        ..counters
+    }
 }
 
 // Gives a slot to a permanent variable, whose safety starts anew.
@@ -148,12 +141,12 @@ fn take_slot(records: &mut Records, owner: u32)
     variable_records::store(records, owner, variable.set_register(0));
 }
 
-// The counters afterwards with the place, or a refusal.
+// The counters afterwards with the place, or a refusal. A struct and no Result, since a refused step tells its counters, too.
 #[derive(Clone, Copy)]
 pub struct Placed {
     pub counters: Counters,
     pub place: u32,
-    pub refusal: u32,
+    pub refusal: Option<Refusal>,
 }
 
 // A new slot.
@@ -165,16 +158,18 @@ fn new_slot(counters: Counters, records: &mut Records, v: u32) -> Placed
         return Placed {
             counters,
             place: 0,
-            refusal: refusals::SLOT,
+            refusal: Some(Refusal::Slot),
         };
     }
     give_slot(records, v, slot);
-    let mut taken = counters;
-    taken.perm_lb = allocator_state::counter_after(slot);
+    let taken = Counters {
+        perm_lb: allocator_state::counter_after(slot),
+        ..counters
+    };
     Placed {
         counters: taken,
         place: slot,
-        refusal: refusals::ACCEPTED,
+        refusal: None,
     }
 }
 
@@ -196,15 +191,16 @@ pub fn alloc_perm_var(
         chunk,
     );
     let left = without_front(counters, found.dropped);
-    let slot = found.slot;
-    if 0 < slot {
-        take_slot(records, found.owner);
-        give_slot(records, v, slot);
-        return Placed {
-            counters: left,
-            place: slot,
-            refusal: refusals::ACCEPTED,
-        };
+    match found.taken {
+        Some(taken) => {
+            take_slot(records, taken.owner);
+            give_slot(records, v, taken.slot);
+            Placed {
+                counters: left,
+                place: taken.slot,
+                refusal: None,
+            }
+        }
+        None => new_slot(left, records, v),
     }
-    new_slot(left, records, v)
 }

@@ -10,7 +10,8 @@ use bit_set::BitSet;
 use registers::RegType;
 use sizes::LAST_COUNTER;
 
-// The numbers that are no table. The Rust's fields keep their names; the counts say how much of a table counts.
+// The numbers that are no table. The Rust's fields keep their names; the counts say how much of a table counts. What is yes or
+// no is 1 or 0, since a C host lends them.
 #[repr(C)]
 #[derive(Clone, Copy)]
 pub struct Counters {
@@ -64,8 +65,5 @@ pub fn counter_after(n: u32) -> u32
 pub fn used_by(in_use: BitSet, place: RegType) -> BitSet
     ensures { result ≡ inserted in_use (number_of_place place) }
 {
-    match place {
-        RegType::Temp(r) => bit_set::insert(in_use, r),
-        RegType::Perm(slot) => bit_set::insert(in_use, slot),
-    }
+    bit_set::insert(in_use, place.number())
 }

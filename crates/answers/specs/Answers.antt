@@ -1,12 +1,11 @@
 -- What the answer to an event sheet is made of: rules 2.5, 16.2, 16.4.
-use Rattle.std.specs.Prelude.{ℕ, List, [], ◌∷◌, ◌++◌}
+use Rattle.std.specs.Prelude.{ℕ, List, [], ◌∷◌, ◌++◌, Option, Some, None}
 use Rattle.notation.specs.Text.{bytes}
 use Rattle.numbers.specs.Numbers.{decimal}
 use Rattle.instructions.specs.Instructions.{line, instruction_text, at_text}
+use Rattle.registers.specs.declared.RegType.{RegType}
 use Rattle.code_deque.specs.declared.CodeDeque.{CodeDeque}
 use Rattle.code_deque.specs.declared.CodeDeque.TheVariants.{Empty, One, Two, Three}
-use Rattle.debray_allocator.specs.declared.At.{At}
-use Rattle.debray_allocator.specs.declared.At.TheVariants.{Nowhere, Place}
 use Rattle.debray_allocator.specs.declared.Answer.{Answer}
 
 -- rule 16.2: the instructions of an event, three at most, in order
@@ -17,12 +16,12 @@ code_text (Two i j) = instruction_text i ++ instruction_text j
 code_text (Three i j k) = (instruction_text i ++ instruction_text j) ++ instruction_text k
 
 -- rule 16.2: then `at` and the place, for the events that have one
-abbrev pub place_text : At → List ℕ
-place_text Nowhere = []
-place_text (Place place) = at_text place
+abbrev pub place_text : Option RegType → List ℕ
+place_text None = []
+place_text (Some place) = at_text place
 
 -- rule 16.2: so an event prints its instructions, then the line of its place, and nothing where it has neither
-unfoldable pub answer_text : CodeDeque → At → List ℕ
+unfoldable pub answer_text : CodeDeque → Option RegType → List ℕ
 answer_text code place = code_text code ++ place_text place
 
 -- the same of a whole answer: what lines and sheets print is said by this alone

@@ -1,6 +1,6 @@
 -- What an event prints is short.
-use Rattle.std.specs.Prelude.{ℕ, zero, suc, ◌+◌, ◌≤◌, ◌/◌, ◌%◌, ◌≡◌, true, false, List, [], ◌∷◌, ◌++◌, ltb, length, take, drop}
-use Rattle.std.proofs.Common.{zero-le, ap₂, subst, ◌∙◌, arith, zero-add, length-append, take_all, take-take, le-leb}
+use Rattle.std.specs.Prelude.{ℕ, zero, suc, ◌+◌, ◌≤◌, ◌/◌, ◌%◌, ◌≡◌, true, false, List, [], ◌∷◌, ◌++◌, ltb, length, take, drop, Option, Some, None}
+use Rattle.std.proofs.Common.{refl, sym, zero-le, ap₂, subst, ◌∙◌, arith, zero-add, length-append, take_all, take-take, le-leb}
 use Rattle.std.proofs.lemmas.List.{take-append-le}
 use Rattle.std.specs.Prelude.{if◌then◌else◌}
 use Rattle.notation.specs.Text.{bytes}
@@ -14,10 +14,9 @@ use Rattle.instructions.specs.declared.Instruction.TheVariants.{GetVariable, Get
 use Rattle.instructions.specs.Instructions.{line, instruction_text, at_text}
 use Rattle.code_deque.specs.declared.CodeDeque.{CodeDeque}
 use Rattle.code_deque.specs.declared.CodeDeque.TheVariants.{Empty, One, Two, Three}
-use Rattle.debray_allocator.specs.declared.At.{At}
-use Rattle.debray_allocator.specs.declared.At.TheVariants.{Nowhere, Place}
 use Rattle.debray_allocator.specs.declared.Answer.{Answer}
 use Rattle.printing.specs.Printing.{printed, place_after, Put}
+use Rattle.answers.specs.declared.Adding.{Adding}
 use Rattle.answers.specs.Adding.{Added}
 use Rattle.answers.specs.Answers.{code_text, place_text, answer_text, text_of, end_text}
 
@@ -93,16 +92,16 @@ code-length (Three i j k) =
       instruction_length k,
     )
 
-place_length : (place : At) → length (place_text place) ≤ 64
+place_length : (place : Option RegType) → length (place_text place) ≤ 64
 unfolding at_text
-place_length Nowhere = zero-le
-place_length (Place place) = omega (arith, two_fields_lem (bytes "at") place)
+place_length None = zero-le
+place_length (Some place) = omega (arith, two_fields_lem (bytes "at") place)
 
 -- at most so many bytes
 abbrev pub longest : ℕ
 longest = 256
 
-pub answer_short : (code : CodeDeque) (place : At) → length (answer_text code place) ≤ longest
+pub answer_short : (code : CodeDeque) (place : Option RegType) → length (answer_text code place) ≤ longest
 unfolding answer_text
 answer_short code place =
     omega (arith, length-append (code_text code) (place_text place), code-length code, place_length place)
@@ -146,3 +145,13 @@ added {scratch} {out} {at} {text} {next = next} {after = after} short put e copy
     let n : _ ≡ length text = put.place ∙ place_within (length scratch) text short in
     let c = e ∙ ap₂ take n put.bytes ∙ read_back scratch text short in
     record { put = subst (λ t. Put out at t next after) c copy; counted = n; scratched = put.bytes }
+
+-- and so is one of which only the length is told, and where what was copied ends
+pub added_on :
+    {scratch out : List ℕ} {at : ℕ} {text : List ℕ} {length' : ℕ} {scratch_after after : List ℕ} {r : Adding}
+    → length text ≤ length scratch
+    → Put scratch 0 text length' scratch_after
+    → Put out at (take length' scratch_after) r.place after × (r.length ≡ length')
+    → Added scratch out at text r scratch_after after
+added_on {scratch} {out} {at} {text} {scratch_after = scratch_after} {after = after} {r = r} short put copy =
+    subst (λ n. Added scratch out at text (record { place = r.place; length = n }) scratch_after after) (sym copy.1) (added short put refl copy.0)

@@ -7,7 +7,7 @@ ghost use Rattle.answers.specs.Answers.{code_text, place_text, answer_text, end_
 ghost use Rattle.answers.specs.Adding.{Added};
 
 use code_deque::CodeDeque;
-use debray_allocator::At;
+use registers::RegType;
 use split::{LINE_FEED, TAB};
 
 // Room for what one event prints.
@@ -42,17 +42,17 @@ fn put_code(out: &mut [u8], at: usize, code: CodeDeque) -> usize
 }
 
 // The line that tells the place, where there is one.
-fn put_place(out: &mut [u8], at: usize, place: At) -> usize
+fn put_place(out: &mut [u8], at: usize, place: Option<RegType>) -> usize
     ensures { Put out.old at (place_text place) result out.new }
 {
     match place {
-        At::Nowhere => printing::put_word(out, at, b""),
-        At::Place(place) => instructions::put_at_line(out, at, place),
+        None => printing::put_word(out, at, b""),
+        Some(place) => instructions::put_at_line(out, at, place),
     }
 }
 
 // What an event prints.
-pub fn put_answer(out: &mut [u8], at: usize, code: CodeDeque, place: At) -> usize
+pub fn put_answer(out: &mut [u8], at: usize, code: CodeDeque, place: Option<RegType>) -> usize
     ensures { Put out.old at (answer_text code place) result out.new }
 {
     let next = put_code(out, at, code);
@@ -70,11 +70,12 @@ pub fn put_end(out: &mut [u8], at: usize, max_reg_allocated: u32, num_perm_vars:
     printing::put_byte(out, slots, LINE_FEED)
 }
 
-// So many bytes of the scratch.
-fn scratched(scratch: &Scratch, length: usize) -> &[u8]
-    ensures { result.now ≡ take length scratch.now }
+// Adds so many bytes of the scratch to an answer.
+fn add(scratch: &Scratch, out: &mut [u8], at: usize, length: usize) -> Adding
+    ensures { Put out.old at (take length scratch.now) result.place out.new × (result.length ≡ length) }
 {
-    split::part_before(&scratch[..], length)
+    let place = printing::put_word(out, at, split::part_before(&scratch[..], length));
+    Adding { place, length }
 }
 
 // Adds what an event prints to an answer.
@@ -83,16 +84,12 @@ pub fn add_answer(
     out: &mut [u8],
     at: usize,
     code: CodeDeque,
-    place: At,
+    place: Option<RegType>,
 ) -> Adding
     ensures { Added scratch.old out.old at (answer_text code place) result scratch.new out.new }
 {
     let length = put_answer(&mut scratch[..], 0, code, place);
-    let next = printing::put_word(out, at, scratched(scratch, length));
-    Adding {
-        place: next,
-        length,
-    }
+    add(scratch, out, at, length)
 }
 
 // Adds the last line to an answer.
@@ -106,9 +103,5 @@ pub fn add_end(
     ensures { Added scratch.old out.old at (end_text max_reg_allocated num_perm_vars) result scratch.new out.new }
 {
     let length = put_end(&mut scratch[..], 0, max_reg_allocated, num_perm_vars);
-    let next = printing::put_word(out, at, scratched(scratch, length));
-    Adding {
-        place: next,
-        length,
-    }
+    add(scratch, out, at, length)
 }

@@ -6,6 +6,7 @@ ghost use Rattle.bit_set.specs.BitSet.{last_member, has, empty_set, inserted, re
 ghost use Rattle.bit_set.specs.Collected.{less};
 ghost use Rattle.bit_set.specs.Search.{numbers_below, numbers_between, first_clear};
 
+// A word and no struct, since a C host lends tables of them.
 pub type BitSet = u64;
 
 // The last number that the word has a bit for.

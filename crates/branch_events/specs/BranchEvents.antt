@@ -1,15 +1,12 @@
 -- The events of branches: the tables afterwards, with the counters or the refusal.
-use Rattle.std.specs.Prelude.{ℕ, List}
+use Rattle.std.specs.Prelude.{ℕ, List, Option, Some, Result, Ok, Err, ⊤}
 use Rattle.forms.specs.declared.Branch.{Branch}
+use Rattle.refusals.specs.declared.Refusal.{Refusal}
+use Rattle.refusals.specs.Refusals.{accepted}
 use Rattle.allocator_state.specs.declared.Counters.{Counters}
 use Rattle.allocator_state.specs.Counters.{with_open_branches}
-use Rattle.branches.specs.declared.Opened.{Opened}
-use Rattle.branches.specs.declared.Opened.TheVariants.{Open, Full}
-use Rattle.branches.specs.declared.Advanced.{Advanced}
-use Rattle.branches.specs.declared.Taken.{Taken}
-use Rattle.branches.specs.declared.Popped.{Popped}
-use Rattle.branches.specs.declared.Popped.TheVariants.{Left, TooDeep, ClosesTemporary, PastOuterArms}
-use Rattle.branches.specs.Branches.{open_refusal, arm_refusal, take_refusal, close_refusal}
+use Rattle.branches.specs.declared.BranchError.{BranchError}
+use Rattle.branches.specs.Branches.{error_refusal, arm_refusal, take_refusal}
 use Rattle.branches.specs.Branches.{opening, rows_opened, sets_opened, advanced, rows_advanced, sets_advanced}
 use Rattle.branches.specs.Branches.{taken, records_taken, rows_taken, sets_taken, popped, records_popped, rows_popped, sets_popped}
 use Rattle.freeing.specs.declared.Released.{Released}
@@ -33,17 +30,21 @@ pub record BranchStep : Type 0 where
 abbrev pub branch_of : List ℕ → List ℕ → List ℕ → Released → BranchStep
 branch_of records rows sets released = record { records = records; rows = rows; sets = sets; released = released }
 
-abbrev pub released_with : Counters → ℕ → Released
+abbrev pub released_with : Counters → Option Refusal → Released
 released_with c refusal = record { counters = c; refusal = refusal }
 
 abbrev pub branch_from : ℕ → ℕ → Branch
 branch_from start span = record { start = start; span = span }
 
+-- so many branches are open afterwards, or the refusal
+abbrev pub left_open : Counters → Result ℕ BranchError → Released
+left_open c (Ok branches) = released_with (with_open_branches branches c) accepted
+left_open c (Err error) = released_with c (Some (error_refusal error))
+
 -- ---- `open`: rule 15.2
 
-abbrev pub open_released : Counters → Opened → Released
-open_released c (Open branches) = released_with (with_open_branches branches c) (open_refusal (Open branches))
-open_released c Full = released_with c (open_refusal Full)
+abbrev pub open_released : Counters → Result ℕ BranchError → Released
+open_released c opened = left_open c opened
 
 unfoldable pub opened : Counters → List ℕ → List ℕ → ℕ → ℕ → ℕ → Stack
 opened c rows sets start span arms =
@@ -54,7 +55,7 @@ opened c rows sets start span arms =
 
 -- ---- `arm`: rule 15.3
 
-abbrev pub arm_released : Counters → Advanced → Released
+abbrev pub arm_released : Counters → Result ⊤ BranchError → Released
 arm_released c a = released_with c (arm_refusal a)
 
 unfoldable pub armed : Counters → List ℕ → List ℕ → ℕ → ℕ → Stack
@@ -66,7 +67,7 @@ armed c rows sets start span =
 
 -- ---- `take`: rule 15.5
 
-abbrev pub take_released : Counters → Taken → Released
+abbrev pub take_released : Counters → Result ⊤ BranchError → Released
 take_released c t = released_with c (take_refusal t)
 
 unfoldable pub stock_taken : Counters → List ℕ → List ℕ → List ℕ → BranchStep
@@ -79,11 +80,8 @@ stock_taken c records rows sets =
 
 -- ---- `close`: rules 15.6 and 15.7
 
-abbrev pub close_released : Counters → Popped → Released
-close_released c (Left branches) = released_with (with_open_branches branches c) (close_refusal (Left branches))
-close_released c TooDeep = released_with c (close_refusal TooDeep)
-close_released c ClosesTemporary = released_with c (close_refusal ClosesTemporary)
-close_released c PastOuterArms = released_with c (close_refusal PastOuterArms)
+abbrev pub close_released : Counters → Result ℕ BranchError → Released
+close_released c popped = left_open c popped
 
 unfoldable pub closed : Counters → List ℕ → List ℕ → List ℕ → ℕ → List ℕ → BranchStep
 closed c records rows sets depth vs =

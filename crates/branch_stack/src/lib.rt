@@ -17,6 +17,15 @@ pub type BranchRows = [u32; OPEN_BRANCHES * NUMBERS_PER_BRANCH];
 
 pub type BranchSets = [u64; OPEN_BRANCHES * SETS_PER_BRANCH];
 
+// The two tables: a row of numbers and a row of sets for each branch that can be open. Arrays, whose count is a counter, since a
+// C host lends them.
+#[repr(C)]
+#[derive(Clone, Copy)]
+pub struct BranchStack {
+    pub rows: BranchRows,
+    pub sets: BranchSets,
+}
+
 #[derive(Clone, Copy)]
 pub struct BranchOccurrences {
     pub current_branch_num: Branch,
@@ -27,39 +36,59 @@ pub struct BranchOccurrences {
     pub subsumed_hits: BitSet,
 }
 
-// The open branch at a level, the outermost at 0. A level past the table is taken modulo its rows.
-pub fn load(rows: &BranchRows, sets: &BranchSets, level: u32) -> BranchOccurrences
-    ensures { result ≡ occurrences_at rows.now sets.now level }
-{
-    let row = (level % OPEN_BRANCHES as u32) as usize * NUMBERS_PER_BRANCH;
-    let set = (level % OPEN_BRANCHES as u32) as usize * SETS_PER_BRANCH;
-    BranchOccurrences {
-        current_branch_num: Branch {
-            start: rows[row],
-            span: rows[row + 1],
-        },
-        num_branches: rows[row + 2],
-        current_branch_idx: rows[row + 3],
-        shallow_safety: sets[set],
-        deep_safety: sets[set + 1],
-        subsumed_hits: sets[set + 2],
+impl BranchStack {
+    // The open branch at a level, the outermost at 0. A level past the table is taken modulo its rows.
+    pub fn load(&self, level: u32) -> BranchOccurrences
+        ensures { result ≡ occurrences_at self.now.rows self.now.sets level }
+    {
+        let row = (level % OPEN_BRANCHES as u32) as usize * NUMBERS_PER_BRANCH;
+        let set = (level % OPEN_BRANCHES as u32) as usize * SETS_PER_BRANCH;
+        BranchOccurrences {
+            current_branch_num: self.branch_at(level),
+            num_branches: self.rows[row + 2],
+            current_branch_idx: self.rows[row + 3],
+            shallow_safety: self.sets[set],
+            deep_safety: self.sets[set + 1],
+            subsumed_hits: self.sets[set + 2],
+        }
     }
-}
 
-// Keeps an open branch at a level.
-pub fn store(rows: &mut BranchRows, sets: &mut BranchSets, level: u32, branch: BranchOccurrences)
-    ensures rows_after { rows.new ≡ rows_put rows.old level branch }
-    ensures sets_after { sets.new ≡ sets_put sets.old level branch }
-{
-    let row = (level % OPEN_BRANCHES as u32) as usize * NUMBERS_PER_BRANCH;
-    let set = (level % OPEN_BRANCHES as u32) as usize * SETS_PER_BRANCH;
-    rows[row] = branch.current_branch_num.start;
-    rows[row + 1] = branch.current_branch_num.span;
-    rows[row + 2] = branch.num_branches;
-    rows[row + 3] = branch.current_branch_idx;
-    sets[set] = branch.shallow_safety;
-    sets[set + 1] = branch.deep_safety;
-    sets[set + 2] = branch.subsumed_hits;
+    // Keeps an open branch at a level.
+    pub fn store(&mut self, level: u32, branch: BranchOccurrences)
+        ensures rows_after { self.new.rows ≡ rows_put self.old.rows level branch }
+        ensures sets_after { self.new.sets ≡ sets_put self.old.sets level branch }
+    {
+        let row = (level % OPEN_BRANCHES as u32) as usize * NUMBERS_PER_BRANCH;
+        let set = (level % OPEN_BRANCHES as u32) as usize * SETS_PER_BRANCH;
+        self.rows[row] = branch.current_branch_num.start;
+        self.rows[row + 1] = branch.current_branch_num.span;
+        self.rows[row + 2] = branch.num_branches;
+        self.rows[row + 3] = branch.current_branch_idx;
+        self.sets[set] = branch.shallow_safety;
+        self.sets[set + 1] = branch.deep_safety;
+        self.sets[set + 2] = branch.subsumed_hits;
+    }
+
+    // The branch of an open level.
+    pub fn branch_at(&self, level: u32) -> Branch
+        ensures { result ≡ branch_at self.now.rows level }
+    {
+        let row = (level % OPEN_BRANCHES as u32) as usize * NUMBERS_PER_BRANCH;
+        Branch {
+            start: self.rows[row],
+            span: self.rows[row + 1],
+        }
+    }
+
+    // The branch in which the clause now stands: the innermost open one, or the default.
+    pub fn current_branch_designator(&self, open_branches: u32) -> Branch
+        ensures { result ≡ current_branch self.now.rows open_branches }
+    {
+        if open_branches == 0 {
+            return Branch { start: 0, span: 0 };
+        }
+        self.branch_at(open_branches - 1)
+    }
 }
 
 // A branch that is opened: no arm has recorded anything.
@@ -74,25 +103,4 @@ pub fn opened(branch: Branch, arms: u32) -> BranchOccurrences
         deep_safety: bit_set::empty(),
         subsumed_hits: bit_set::empty(),
     }
-}
-
-// The branch of an open level.
-pub fn branch_at(rows: &BranchRows, level: u32) -> Branch
-    ensures { result ≡ branch_at rows.now level }
-{
-    let row = (level % OPEN_BRANCHES as u32) as usize * NUMBERS_PER_BRANCH;
-    Branch {
-        start: rows[row],
-        span: rows[row + 1],
-    }
-}
-
-// The branch in which the clause now stands: the innermost open one, or the default.
-pub fn current_branch_designator(rows: &BranchRows, open_branches: u32) -> Branch
-    ensures { result ≡ current_branch rows.now open_branches }
-{
-    if open_branches == 0 {
-        return Branch { start: 0, span: 0 };
-    }
-    branch_at(rows, open_branches - 1)
 }

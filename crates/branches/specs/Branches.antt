@@ -1,8 +1,11 @@
 -- What `open`, `arm`, `take` and `close` do to the open branches and to the records, and how an occurrence is recorded.
-use Rattle.std.specs.Prelude.{ℕ, ◌+◌, ◌-◌, Bool, false, not, ◌||◌, List, [], ◌∷◌, eqb, leb, ltb, length}
-use Rattle.std.specs.Prelude.{if◌then◌else◌}
+use Rattle.std.specs.Prelude.{ℕ, ◌+◌, ◌-◌, Bool, false, not, List, eqb, leb, ltb, length}
+use Rattle.std.specs.Prelude.{if◌then◌else◌, Option, Some, Result, Ok, Err, ⊤}
+use Rattle.std.specs.List.{list_any}
 use Rattle.sizes.specs.Sizes.{open_branches, counts}
-use Rattle.refusals.specs.Refusals.{accepted, refused_stop, refused_full, refused_unreachable}
+use Rattle.refusals.specs.declared.Refusal.{Refusal}
+use Rattle.refusals.specs.declared.Refusal.TheVariants as refusal
+use Rattle.refusals.specs.Refusals.{accepted, is_refused}
 use Rattle.bit_set.specs.BitSet.{has, empty_set, inserted, union}
 use Rattle.forms.specs.Forms.{default_branch}
 use Rattle.forms.specs.declared.Branch.{Branch}
@@ -14,49 +17,45 @@ use Rattle.variable_records.specs.Rows.{record_at, record_put, is_temporary}
 use Rattle.variable_records.specs.Safety.{needed_if, safety_unneeded}
 use Rattle.branch_stack.specs.declared.BranchOccurrences.{BranchOccurrences}
 use Rattle.branch_stack.specs.BranchStack.{occurrences_at, rows_put, sets_put, branch_opened}
-use Rattle.branches.specs.declared.Opened.{Opened}
-use Rattle.branches.specs.declared.Opened.TheVariants.{Open, Full}
-use Rattle.branches.specs.declared.Advanced.{Advanced}
-use Rattle.branches.specs.declared.Advanced.TheVariants.{NextArm, NoneToAdvance, ArmsFull}
-use Rattle.branches.specs.declared.Recorded.{Recorded}
-use Rattle.branches.specs.declared.Recorded.TheVariants.{Well, PastArms}
-use Rattle.branches.specs.declared.Taken.{Taken}
-use Rattle.branches.specs.declared.Taken.TheVariants.{Took, NoneToTake, TakesTemporary}
-use Rattle.branches.specs.declared.Popped.{Popped}
-use Rattle.branches.specs.declared.Popped.TheVariants.{Left, TooDeep, ClosesTemporary, PastOuterArms}
+use Rattle.branches.specs.declared.BranchError.{BranchError}
+use Rattle.branches.specs.declared.BranchError.TheVariants.{Full, ArmsFull, NoneOpen, TooDeep, PastArms, ClosesTemporary, TakesTemporary}
 use Rattle.branches.specs.declared.Guards.{Guards}
 use Rattle.notation.specs.Lists.{numbers_from}
 use Rattle.branches.specs.Lists.{members, each}
 
--- ---- The refusal of each answer, by its number, rules 4.4, 4.7 and 4.8; 0 where there is none
+-- ---- The refusal of each error, rules 4.4, 4.7 and 4.8; none where there is no error
 
-abbrev pub open_refusal : Opened → ℕ
-open_refusal (Open branches) = accepted
-open_refusal Full = refused_full
+abbrev pub error_refusal : BranchError → Refusal
+error_refusal Full = refusal.Full
+error_refusal ArmsFull = refusal.Full
+error_refusal NoneOpen = refusal.Stop
+error_refusal TooDeep = refusal.Stop
+error_refusal PastArms = refusal.Stop
+error_refusal ClosesTemporary = refusal.Stop
+error_refusal TakesTemporary = refusal.Unreachable
 
-abbrev pub arm_refusal : Advanced → ℕ
-arm_refusal NextArm = accepted
-arm_refusal NoneToAdvance = refused_stop
-arm_refusal ArmsFull = refused_full
+abbrev pub refusal_of : {A : Type 0} → Result A BranchError → Option Refusal
+refusal_of (Ok done) = accepted
+refusal_of (Err error) = Some (error_refusal error)
 
-abbrev pub record_refusal : Recorded → ℕ
-record_refusal Well = accepted
-record_refusal PastArms = refused_stop
+abbrev pub open_refusal : Result ℕ BranchError → Option Refusal
+open_refusal opened = refusal_of opened
 
-abbrev pub take_refusal : Taken → ℕ
-take_refusal Took = accepted
-take_refusal NoneToTake = refused_stop
-take_refusal TakesTemporary = refused_unreachable
+abbrev pub arm_refusal : Result ⊤ BranchError → Option Refusal
+arm_refusal advanced = refusal_of advanced
 
-abbrev pub close_refusal : Popped → ℕ
-close_refusal (Left branches) = accepted
-close_refusal TooDeep = refused_stop
-close_refusal ClosesTemporary = refused_stop
-close_refusal PastOuterArms = refused_stop
+abbrev pub record_refusal : Result ⊤ BranchError → Option Refusal
+record_refusal recorded = refusal_of recorded
+
+abbrev pub take_refusal : Result ⊤ BranchError → Option Refusal
+take_refusal taken = refusal_of taken
+
+abbrev pub close_refusal : Result ℕ BranchError → Option Refusal
+close_refusal popped = refusal_of popped
 
 -- rule 1.3: a refusal leaves a table as it was
-abbrev pub unless_refused : ℕ → List ℕ → List ℕ → List ℕ
-unless_refused refusal before after = if eqb refusal accepted then after else before
+abbrev pub unless_refused : Option Refusal → List ℕ → List ℕ → List ℕ
+unless_refused refusal before after = if is_refused refusal then before else after
 
 -- ---- The innermost open branch
 
@@ -99,8 +98,8 @@ past_arms branch = leb branch.num_branches branch.current_branch_idx
 
 -- ---- `open`: rule 15.2
 
-unfoldable pub opening : ℕ → Opened
-opening opened = if leb open_branches opened then Full else Open (opened + 1)
+unfoldable pub opening : ℕ → Result ℕ BranchError
+opening opened = if leb open_branches opened then Err Full else Ok (opened + 1)
 
 unfoldable pub rows_opened : List ℕ → ℕ → Branch → ℕ → List ℕ
 rows_opened rows opened branch arms = unless_refused (open_refusal (opening opened)) rows (rows_put rows opened (branch_opened branch arms))
@@ -122,11 +121,11 @@ next_arm top branch =
     }
 
 module _ (rows sets : List ℕ) (opened : ℕ) where
-  unfoldable pub advanced : Advanced
+  unfoldable pub advanced : Result ⊤ BranchError
   advanced =
-      if eqb opened 0 then NoneToAdvance
-      else if leb counts (top_of rows sets opened).current_branch_idx then ArmsFull
-      else NextArm
+      if eqb opened 0 then Err NoneOpen
+      else if leb counts (top_of rows sets opened).current_branch_idx then Err ArmsFull
+      else Ok tt
 
   unfoldable pub rows_advanced : Branch → List ℕ
   rows_advanced branch = unless_refused (arm_refusal advanced) rows (rows_top rows opened (next_arm (top_of rows sets opened) branch))
@@ -140,8 +139,8 @@ abbrev pub occurrence_added : BranchOccurrences → ℕ → BranchOccurrences
 occurrence_added top v = with_subsumed top (inserted top.subsumed_hits v)
 
 module _ (rows sets : List ℕ) (opened : ℕ) where
-  unfoldable pub recorded : Recorded
-  recorded = if eqb opened 0 then Well else if past_arms (top_of rows sets opened) then PastArms else Well
+  unfoldable pub recorded : Result ⊤ BranchError
+  recorded = if eqb opened 0 then Ok tt else if past_arms (top_of rows sets opened) then Err PastArms else Ok tt
 
   unfoldable pub rows_recorded : ℕ → List ℕ
   rows_recorded v = unless_refused (record_refusal recorded) rows (rows_top rows opened (occurrence_added (top_of rows sets opened) v))
@@ -152,8 +151,7 @@ module _ (rows sets : List ℕ) (opened : ℕ) where
 -- ---- `close`, rules 15.6 and 15.7: so many branches are taken away, and variables are named
 
 unfoldable pub names_temporary : List ℕ → List ℕ → Bool
-names_temporary records [] = false
-names_temporary records (v ∷ vs) = is_temporary records v || names_temporary records vs
+names_temporary records vs = list_any (is_temporary records) vs
 
 -- the branch that is left, if one is, has to record each variable, and cannot
 unfoldable pub nowhere_recorded : List ℕ → List ℕ → ℕ → List ℕ → Bool
@@ -196,12 +194,12 @@ abbrev pub occurrences_added : BranchOccurrences → List ℕ → BranchOccurren
 occurrences_added top vs = with_subsumed top (each inserted top.subsumed_hits vs)
 
 module _ (records rows sets : List ℕ) (opened depth : ℕ) (vs : List ℕ) where
-  unfoldable pub popped : Popped
+  unfoldable pub popped : Result ℕ BranchError
   popped =
-      if ltb opened depth then TooDeep
-      else if names_temporary records vs then ClosesTemporary
-      else if nowhere_recorded rows sets (opened - depth) vs then PastOuterArms
-      else Left (opened - depth)
+      if ltb opened depth then Err TooDeep
+      else if names_temporary records vs then Err ClosesTemporary
+      else if nowhere_recorded rows sets (opened - depth) vs then Err PastArms
+      else Ok (opened - depth)
 
   abbrev pub left_on_top : BranchOccurrences
   left_on_top = branch_met rows sets (opened - depth) opened
@@ -270,11 +268,11 @@ module _ (records rows sets : List ℕ) (opened : ℕ) where
   abbrev pub to_take : List ℕ
   to_take = members (top_of rows sets opened).subsumed_hits
 
-  unfoldable pub taken : Taken
+  unfoldable pub taken : Result ⊤ BranchError
   taken =
-      if eqb opened 0 then NoneToTake
-      else if names_temporary records to_take then TakesTemporary
-      else Took
+      if eqb opened 0 then Err NoneOpen
+      else if names_temporary records to_take then Err TakesTemporary
+      else Ok tt
 
   unfoldable pub records_taken : List ℕ
   records_taken = unless_refused (take_refusal taken) records (each variable_pended records to_take)

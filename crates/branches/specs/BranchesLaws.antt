@@ -1,19 +1,17 @@
 -- Laws of branches: the search for a temporary, a variable at a time; what is done for the members of a set only; and a
 -- close or take that is not refused.
-use Rattle.std.specs.Prelude.{ℕ, ◌+◌, ◌-◌, ◌≤◌, ◌<◌, ◌≡◌, ◌&&◌, ◌||◌, List, [], ◌∷◌, length, get_or, drop}
-use Rattle.std.proofs.Math.Path.{refl, ap}
-use Rattle.std.proofs.Common.{◌∙◌, add-one, drop_of_length-le}
+use Rattle.std.specs.Prelude.{ℕ, zero, suc, ◌+◌, ◌-◌, ◌≤◌, ◌≡◌, Bool, ◌&&◌, ◌||◌, List, [], ◌∷◌}
+use Rattle.std.specs.List.{list_any, range_with_len}
+use Rattle.std.proofs.Math.Path.{refl, ap, sym}
+use Rattle.std.proofs.Common.{◌∙◌, arith, add-one}
+use native.Mathlib.Numerals.{unary_clauses}
 use Rattle.std.proofs.Math.Bool.{true, false}
-use Rattle.std.proofs.Math.Seq.{drop-cons}
-use Rattle.std.specs.Prelude.{if◌then◌else◌}
+use Rattle.std.specs.Prelude.{if◌then◌else◌, Ok}
 use Rattle.bit_set.specs.BitSet.{has, inserted}
 use Rattle.branch_stack.specs.declared.BranchOccurrences.{BranchOccurrences}
 use Rattle.variable_records.specs.Rows.{is_temporary}
-use Rattle.branches.specs.declared.Popped.TheVariants.{Left}
-use Rattle.branches.specs.declared.Taken.TheVariants.{Took}
 use Rattle.notation.specs.Lists.{numbers_from}
 use Rattle.branches.specs.Lists.{members_among, members, each}
-use Rattle.branches.specs.ListLaws.{numbers_more}
 use Rattle.branches.specs.Branches.{names_temporary, no_guards, guards_at, guards_if_member, inserted_if, shallow_taken, deep_taken}
 use Rattle.branches.specs.Branches.{rows_top, sets_top, with_subsumed, branch_met, variable_closed, occurrences_added, popped, left_on_top, records_popped, rows_popped, sets_popped}
 use Rattle.branches.specs.Branches.{top_of, safety_taken, variable_pended, taken, records_taken, rows_taken, sets_taken}
@@ -21,51 +19,38 @@ use Rattle.branches.specs.Branches.{top_of, safety_taken, variable_pended, taken
 -- ---- The search for a temporary
 
 module _ (records : List ℕ) where
-  -- in a list, from entry i on
-  module _ (vs : List ℕ) (i : ℕ) where
-    pub temporary_hit : i < length vs → is_temporary records (get_or vs i 0) ≡ true → names_temporary records (drop i vs) ≡ true
-    unfolding names_temporary
-    temporary_hit h e = rw (drop-cons vs i 0 h) (simp e)
+  module _ (set : ℕ) where
+    -- whether a number is a member of a set, and a temporary
+    abbrev pub temporary_member : ℕ → Bool
+    temporary_member v = has set v && is_temporary records v
 
-    pub temporary-miss :
-        i < length vs → is_temporary records (get_or vs i 0) ≡ false
-        → names_temporary records (drop i vs) ≡ names_temporary records (drop (i + 1) vs)
-    unfolding names_temporary
-    temporary-miss h e = rw (add-one i, drop-cons vs i 0 h) (simp e)
-
-    pub temporary-end : length vs ≤ i → names_temporary records (drop i vs) ≡ false
-    unfolding names_temporary
-    temporary-end h = rw (drop_of_length-le vs {i = i} h)
-
-  -- among the members of a set, from i on and below n
-  module _ (set i n : ℕ) where
     member_next :
-        (vs : List ℕ)
-        → names_temporary records (members_among set (i ∷ vs))
-        ≡ ((has set i && is_temporary records i) || names_temporary records (members_among set vs))
+        (i : ℕ) (vs : List ℕ)
+        → names_temporary records (members_among set (i ∷ vs)) ≡ (temporary_member i || names_temporary records (members_among set vs))
     unfolding names_temporary members_among
-    member_next vs =
+    member_next i vs =
         elim (has set i) as
         (λ t. names_temporary records (if t then i ∷ members_among set vs else members_among set vs)
         ≡ ((t && is_temporary records i) || names_temporary records (members_among set vs)))
         [ true ↦ refl | false ↦ refl ]
 
-    pub member_hit :
-        i < n → (has set i && is_temporary records i) ≡ true
-        → names_temporary records (members_among set (numbers_from i (n - i))) ≡ true
-    member_hit h e = rw (numbers_more i n h) (member_next _ ∙ simp e)
-
-    pub member_miss :
-        i < n → (has set i && is_temporary records i) ≡ false
-        → names_temporary records (members_among set (numbers_from i (n - i)))
-        ≡ names_temporary records (members_among set (numbers_from (i + 1) (n - (i + 1))))
-    member_miss h e = rw (numbers_more i n h) (member_next _ ∙ simp e)
-
-    pub member_end :
-        members_among set (numbers_from i (n - i)) ≡ []
-        → names_temporary records (members_among set (numbers_from i (n - i))) ≡ false
-    unfolding names_temporary
-    member_end none = ap (names_temporary records) none
+    -- the search of m numbers from i on, where no number from the next, j, up to the n-th is a member
+    pub any_member :
+        (i m n j : ℕ) → i + m ≡ j → m ≤ n → members_among set (numbers_from j (n - m)) ≡ []
+        → list_any temporary_member (range_with_len i m) ≡ names_temporary records (members_among set (numbers_from i n))
+    unfolding names_temporary numbers_from
+    any_member i zero n j e h none =
+        let here : i ≡ j = omega (arith, e) in
+        let nowhere : members_among set (numbers_from i n) ≡ [] = rw here (simp unary_clauses at none) in
+        sym (ap (names_temporary records) nowhere)
+    any_member i (suc m) zero j e h none = absurd (omega arith)
+    any_member i (suc m) (suc n) j e h none =
+        let less : n - m ≡ suc n - suc m = omega arith in
+        let later = any_member (suc i) m n j (omega (arith, e)) (omega arith) (rw less none) in
+        let searched : list_any temporary_member (range_with_len (i + 1) m) ≡ names_temporary records (members_among set (numbers_from (suc i) n)) =
+        rw (add-one i) later
+        in
+        ap (λ (t : Bool). temporary_member i || t) searched ∙ sym (member_next i (numbers_from (suc i) n))
 
 -- ---- What is done for the members of a set only
 
@@ -94,7 +79,7 @@ module _ (records : List ℕ) (top : BranchOccurrences) (set v : ℕ) where
 
 module _
     (records rows sets : List ℕ) (opened depth : ℕ) (vs : List ℕ) (top : BranchOccurrences) (subsumed : ℕ)
-    (closes : popped records rows sets opened depth vs ≡ Left (opened - depth))
+    (closes : popped records rows sets opened depth vs ≡ Ok (opened - depth))
     (meets : top ≡ branch_met rows sets (opened - depth) opened)
     (joins : subsumed ≡ each inserted top.subsumed_hits vs)
   where
@@ -117,7 +102,7 @@ module _
 
 module _
     (records rows sets : List ℕ) (opened : ℕ) (top after : BranchOccurrences)
-    (takes : taken records rows sets opened ≡ Took)
+    (takes : taken records rows sets opened ≡ Ok tt)
     (here : top ≡ top_of rows sets opened)
     (safety : after ≡ safety_taken records top)
   where

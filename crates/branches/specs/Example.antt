@@ -1,6 +1,6 @@
 -- Rules 15.2 to 15.6, tried: in the second arm of one branch another is opened, a variable occurs in it, and it is closed.
 -- The variable had to be guarded as an argument and not as a subterm; so it has to be in the outer branch, which records it.
-use Rattle.std.specs.Prelude.{ℕ, ◌*◌, ◌≡◌, refl, List, [], ◌∷◌, replicate}
+use Rattle.std.specs.Prelude.{ℕ, ◌*◌, ◌≡◌, refl, List, [], ◌∷◌, replicate, Ok}
 use Rattle.sizes.specs.Sizes.{variables, open_branches}
 use Rattle.bit_set.specs.BitSet.{has, empty_set, inserted, union}
 use Rattle.forms.specs.declared.Branch.{Branch}
@@ -12,7 +12,6 @@ use Rattle.variable_records.specs.declared.VariableRecord.{VariableRecord}
 use Rattle.variable_records.specs.Rows.{row_cells, record_at, record_put, record_of, allocation_of, perm_of, safety_of, temporary, is_temporary}
 use Rattle.variable_records.specs.Safety.{needed_if, unneeded_in}
 use Rattle.branch_stack.specs.BranchStack.{numbers_per_branch, sets_per_branch}
-use Rattle.branches.specs.declared.Popped.TheVariants.{Left}
 use Rattle.notation.specs.Lists.{numbers_from}
 use Rattle.branches.specs.Lists.{members_among, each}
 use Rattle.branches.specs.Branches.{top_of, rows_top, sets_top, opening, rows_opened, sets_opened, advanced, rows_advanced, sets_advanced, recorded, rows_recorded, sets_recorded}
@@ -64,7 +63,7 @@ records₅ = records_taken records₄ rows₄ sets₄ 2
 
 pub example :
     (record_at records₅ 0 ≡ variable Pending)
-    × (popped records₅ rows₅ sets₅ 2 1 (0 ∷ []) ≡ Left 1)
+    × (popped records₅ rows₅ sets₅ 2 1 (0 ∷ []) ≡ Ok 1)
     × (record_at (records_popped records₅ rows₅ sets₅ 2 1 (0 ∷ [])) 0 ≡ variable (Done Needed (LocallyUnneeded (branch 20))))
     × (top_of (rows_popped records₅ rows₅ sets₅ 2 1 (0 ∷ [])) (sets_popped records₅ rows₅ sets₅ 2 1 (0 ∷ [])) 1
     ≡ record {

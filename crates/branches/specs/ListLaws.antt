@@ -1,16 +1,16 @@
 -- Laws of words on lists: a loop that makes a step for each entry, one turn at a time. `whole` is what the whole list
 -- makes; what is left of the list makes it from what the loop has so far.
-use Rattle.std.specs.Prelude.{ℕ, zero, suc, ◌+◌, ◌-◌, ◌/◌, ◌%◌, ◌^◌, ◌≤◌, ◌<◌, ◌≡◌, Bool, List, [], ◌∷◌, eqb, length, get_or, drop}
+use Rattle.std.specs.Prelude.{ℕ, zero, suc, ◌+◌, ◌-◌, ◌/◌, ◌%◌, ◌^◌, ◌≤◌, ◌<◌, ◌≡◌, List, [], ◌∷◌, eqb, length, get_or, drop}
 use Rattle.std.proofs.Math.Path.{refl, ap, sym}
 use Rattle.std.proofs.Common.{◌∙◌, arith, add-one, drop_of_length-le, shr-shr, drop-cons}
-use Rattle.std.proofs.Math.Bool.{true, false, not}
-use Rattle.std.proofs.Math.Dec.{ltb}
-use borrow.Author.Tests.{ltb-true, ltb-false, eqb-true, not-false}
+use Rattle.std.proofs.Math.Nat.{div-eq_of_lt}
+use Rattle.std.proofs.Math.Pow.{pow_mono}
+use Rattle.std.proofs.Math.Bool.{true, false}
 use Rattle.std.specs.Prelude.{if◌then◌else◌}
 use Rattle.sizes.specs.Sizes.{variables}
 use Rattle.bit_set.specs.BitSet.{has}
 use Rattle.notation.specs.Lists.{numbers_from}
-use Rattle.branches.specs.Lists.{members_among, has_from, each}
+use Rattle.branches.specs.Lists.{members_among, members_from, each}
 
 -- ---- The numbers from i on that are below n
 
@@ -34,7 +34,7 @@ pub members-less : (set v : ℕ) (vs : List ℕ) → has set v ≡ false → mem
 unfolding members_among
 members-less set v vs e = simp e
 
--- ---- A loop over the members of a set, which tests at v whether one is left
+-- ---- A loop over the members of a set, which ends after the last one
 
 none-among : (set v n : ℕ) → set / 2 ^ v ≡ 0 → members_among set (numbers_from v n) ≡ []
 unfolding members_among numbers_from has
@@ -46,27 +46,9 @@ none-among set v (suc n) e =
     in
     members-less set v (numbers_from (suc v) n) less ∙ none-among set (suc v) n next
 
-module _ (set v : ℕ) {test : Bool} (tested : test ≡ has_from set v) where
-  pub from-below : test ≡ true → v < variables
-  unfolding has_from
-  from-below e =
-      elim (ltb v variables) as
-      (λ t. ltb v variables ≡ t → (if t then not (eqb (set / 2 ^ v) 0) else false) ≡ true → v < variables) [
-        | true ↦ λ h some. ltb-true _ _ h
-        | false ↦ λ h some. ltb-true _ _ (h ∙ some)
-      ]
-      refl (sym tested ∙ e)
-
-  pub from-none : test ≡ false → members_among set (numbers_from v (variables - v)) ≡ []
-  unfolding has_from members_among
-  from-none e =
-      elim (ltb v variables) as
-      (λ t. ltb v variables ≡ t → (if t then not (eqb (set / 2 ^ v) 0) else false) ≡ false
-      → members_among set (numbers_from v (variables - v)) ≡ []) [
-        | true ↦ λ h none. none-among set v _ (eqb-true _ _ (not-false _ none))
-        | false ↦ λ h none. ap (members_among set) (numbers_none v variables (ltb-false _ _ h))
-      ]
-      refl (sym tested ∙ e)
+-- a set has no member from the number on that its digits end at
+pub none-past : (set m : ℕ) → set < 2 ^ m → (v : ℕ) → m ≤ v → members_from set v ≡ []
+none-past set m small v past = none-among set v (variables - v) (div-eq_of_lt (omega (arith, small, pow_mono past)))
 
 -- ---- A step for each entry
 

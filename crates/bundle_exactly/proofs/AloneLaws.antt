@@ -1,13 +1,13 @@
 -- Rule 18.5: each clause is answered alone, and where two change places, so do their answers.
-use Rattle.std.specs.Prelude.{ℕ, ◌≤◌, ◌<◌, ◌≡◌, refl, Bool, true, false, ◌&&◌, List, [], ◌∷◌, ◌++◌, ltb, length, take, drop}
+use Rattle.std.specs.Prelude.{ℕ, ◌≤◌, ◌<◌, ◌≡◌, refl, Bool, true, false, ◌&&◌, List, [], ◌∷◌, ◌++◌, ltb, length, take, drop, Ok}
 use Rattle.std.proofs.Common.{ap, ap₂, subst, sym, ◌∙◌, append_assoc, append-nil, arith, length-append, ltb-true, ltb-false}
 use Rattle.std.proofs.Math.Seq.{drop-append_seam, take-append_seam}
 use Rattle.notation.specs.ChoiceLaws.{by_test}
-use Rattle.refusals.specs.Refusals.{refused_room}
+use Rattle.refusals.specs.declared.Refusal.TheVariants.{Room}
 use Rattle.sizes.specs.Sizes.{sheet_bytes}
 use Rattle.split.specs.Split.{line_feed}
 use Rattle.split.specs.SplitTrips.{all_free}
-use Rattle.answered.specs.declared.Answered.TheVariants.{Written, Refused}
+use Rattle.answered.specs.Answered.{refused}
 use Rattle.bundles.specs.Bundles.{clause_word, sheet_of, clause_text, clause_texts, answered, filled}
 use Rattle.bundles.specs.RunningLaws.{texts-first}
 use Rattle.bundle_exactly.specs.Exactly.{
@@ -32,7 +32,7 @@ module _ (bodies : List Body) (all : are_bodies bodies ≡ true) where
 
   pub bodies_roomless :
       (room : ℕ) → length (bundle_of bodies) ≤ sheet_bytes → room < length (clause_texts bodies)
-      → answered (bundle_of bodies) room ≡ Refused 0 refused_room
+      → answered (bundle_of bodies) room ≡ refused 0 Room
   bodies_roomless room short h =
       (room_exactly (bundle_of bodies) room).1 (bodies_bundle bodies all short, omega (arith, ap length text-read))
 
@@ -40,7 +40,7 @@ module _ (bodies : List Body) (all : are_bodies bodies ≡ true) where
     text_short : length (bundle_text (bundle_of bodies)) ≤ room
     text_short = omega (arith, ap length text-read, fits.text-fits)
 
-    bodies_written : answered (bundle_of bodies) room ≡ Written (length (clause_texts bodies))
+    bodies_written : answered (bundle_of bodies) room ≡ Ok (length (clause_texts bodies))
     bodies_written =
         (written_exactly (bundle_of bodies) room).1
         (bodies_bundle bodies all fits.bundle-fits, text_short, sym (ap length text-read))

@@ -2,14 +2,14 @@
 use Rattle.std.specs.Prelude.{ℕ, zero, suc, ◌*◌, ◌≤◌, ◌<◌, ◌≡◌, refl, true, List, [], ◌++◌, length}
 use Rattle.std.proofs.Common.{ap, ap₂, subst, ◌∙◌, arith}
 use Rattle.notation.specs.Text.{bytes}
-use Rattle.refusals.specs.Refusals.{refused_room}
+use Rattle.refusals.specs.declared.Refusal.TheVariants.{Room}
 use Rattle.sizes.specs.Sizes.{sheet_bytes}
 use Rattle.split.specs.Split.{split, joined}
 use Rattle.split.specs.SplitTrips.{all_free}
 use Rattle.numbers.specs.Numbers.{written, decimal}
 use Rattle.instructions.specs.Instructions.{line}
 use Rattle.answers.specs.Answers.{end_text}
-use Rattle.answered.specs.declared.Answered.TheVariants.{Refused}
+use Rattle.answered.specs.Answered.{refused}
 use Rattle.event_sheets.specs.EventSheets.{max_reg_allocated, last_ran, ran, sheet_ran}
 use Rattle.bundles.specs.Bundles.{sheet_of, ran_text, clause_text, clause_texts, answered}
 use Rattle.bundle_exactly.specs.Exactly.{no_clause, are_bodies, bundle_of, Fits, AnsweredWith, empties, empty_texts}
@@ -58,7 +58,7 @@ module _ (n : ℕ) (short : 7 * n ≤ sheet_bytes) where
       in
       subst (AnsweredWith (bundle_of (empties n)) out) (empties-texts n) (bodies_texts (empties n) (empties_bodies n) out fits)
 
-  pub empties_roomless : (room : ℕ) → room < 8 * n → answered (bundle_of (empties n)) room ≡ Refused 0 refused_room
+  pub empties_roomless : (room : ℕ) → room < 8 * n → answered (bundle_of (empties n)) room ≡ refused 0 Room
   empties_roomless room small =
       bodies_roomless (empties n) (empties_bodies n) room (omega (arith, empties-length n)) (omega (arith, empties-texts-length n))
 
@@ -67,5 +67,5 @@ pub most_empties :
     (out : List ℕ) → length out ≡ sheet_bytes → AnsweredWith (bundle_of (empties 8_192)) out (empty_texts 8_192)
 most_empties out room = empties-written 8_192 (omega arith) out (omega arith)
 
-pub one-empty_more : answered (bundle_of (empties 8_193)) sheet_bytes ≡ Refused 0 refused_room
+pub one-empty_more : answered (bundle_of (empties 8_193)) sheet_bytes ≡ refused 0 Room
 one-empty_more = empties_roomless 8_193 (omega arith) sheet_bytes (omega arith)

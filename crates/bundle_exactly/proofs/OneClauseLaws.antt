@@ -1,14 +1,15 @@
 -- Rules 18.2, 18.4: a bundle of one clause prints what the event sheet of its lines prints, or its `no` line.
-use Rattle.std.specs.Prelude.{ℕ, ◌≤◌, ◌<◌, ◌≡◌, true, false, ltb, length}
+use Rattle.std.specs.Prelude.{ℕ, ◌≤◌, ◌<◌, ◌≡◌, Option, length, Ok, Some, None, true}
 use Rattle.std.proofs.Math.Path.{refl, ap, ap₂, sym}
-use Rattle.std.proofs.Common.{subst, ◌∙◌, arith, ltb-true}
+use Rattle.std.proofs.Common.{subst, ◌∙◌, arith}
 use mathlib.Core.List.{List, [], ◌∷◌}
 use Rattle.std.proofs.Math.ListN.{length-append}
-use Rattle.refusals.specs.Refusals.{refused_room}
+use Rattle.refusals.specs.declared.Refusal.{Refusal}
+use Rattle.refusals.specs.declared.Refusal.TheVariants.{Room}
+use Rattle.refusals.specs.Refusals.{accepted, is_refused}
 use Rattle.sizes.specs.Sizes.{sheet_bytes}
 use Rattle.split.specs.Split.{line_feed}
-use Rattle.answered.specs.declared.Answered.TheVariants.{Written, Refused}
-use Rattle.answered.specs.Answered.{filled_by, refusal_text}
+use Rattle.answered.specs.Answered.{refused, filled_by, refusal_text}
 use Rattle.answered.specs.NumberLaws.{line_in}
 use Rattle.event_sheets.specs.EventSheets.{answered_by, answered as sheet_answered, filled as sheet_filled}
 use Rattle.bundles.specs.Bundles.{clause_word, sheet_of, ran_text, clause_text, clause_texts, all_ran, bundle_ran, answered, filled}
@@ -32,7 +33,7 @@ module _ (body : Body) where
       one-ran =
           bundle_ran_lem (bundle body) (bodies_bundle (body ∷ []) own short) ∙ ap all_ran (text-read (body ∷ []) own ∙ text-one body)
 
-      module _ (e : ltb 0 (run body).refusal ≡ false) where
+      module _ (e : (run body).refusal ≡ accepted) where
         accepted_text_lem : clause_text body ≡ (run body).text
         unfolding clause_text ran_text
         accepted_text_lem = simp e
@@ -50,7 +51,7 @@ module _ (body : Body) where
             ap₂ (λ a text. filled_by a text out) (accepted-answered (length out)) (ap (λ r. r.text) one-ran ∙ accepted_text_lem)
 
       no_line :
-          (room : ℕ) {number refusal : ℕ} → 1 ≤ number → sheet_answered (sheet body) room ≡ Refused number refusal
+          (room : ℕ) {number : ℕ} {refusal : Refusal} → 1 ≤ number → sheet_answered (sheet body) room ≡ refused number refusal
           → clause_texts (body ∷ []) ≡ refusal_text number refusal
       no_line room some h = text-one body ∙ refused_costs_its_line body sheet-fits room some h
 
@@ -58,31 +59,31 @@ module _ (body : Body) where
 
       -- written: the same count, and the same bytes
       pub one_written :
-          (out : List ℕ) {count : ℕ} → sheet_answered (sheet body) (length out) ≡ Written count
-          → (answered (bundle body) (length out) ≡ Written count) × (filled (bundle body) out ≡ sheet_filled (sheet body) out)
+          (out : List ℕ) {count : ℕ} → sheet_answered (sheet body) (length out) ≡ Ok count
+          → (answered (bundle body) (length out) ≡ Ok count) × (filled (bundle body) out ≡ sheet_filled (sheet body) out)
       one_written out {count} h =
-          elim (ltb 0 (run body).refusal) as
-          (λ t. ltb 0 (run body).refusal ≡ t
-          → (answered (bundle body) (length out) ≡ Written count) × (filled (bundle body) out ≡ sheet_filled (sheet body) out)) [
-            | true ↦ λ e. (let never : ◌≡◌ {A = ℕ} 0 1 = cc (refused-sheet body sheet-fits e (length out)) in absurd (omega arith))
-            | false ↦ λ e. (accepted-answered e (length out) ∙ h, accepted-filled e out)
+          elim (run body).refusal as
+          (λ (r : Option Refusal). (run body).refusal ≡ r
+          → (answered (bundle body) (length out) ≡ Ok count) × (filled (bundle body) out ≡ sheet_filled (sheet body) out)) [
+            | Some why ↦ λ e. absurd (let never = sym (refused-sheet body sheet-fits e (length out)) ∙ h in cc)
+            | None ↦ λ e. (accepted-answered e (length out) ∙ h, accepted-filled e out)
           ]
           refl
 
       -- no room for it: the same
       pub one_roomless :
-          (room : ℕ) {refusal : ℕ} → sheet_answered (sheet body) room ≡ Refused 0 refusal → answered (bundle body) room ≡ Refused 0 refusal
+          (room : ℕ) {refusal : Refusal} → sheet_answered (sheet body) room ≡ refused 0 refusal → answered (bundle body) room ≡ refused 0 refusal
       one_roomless room {refusal} h =
-          elim (ltb 0 (run body).refusal) as (λ t. ltb 0 (run body).refusal ≡ t → answered (bundle body) room ≡ Refused 0 refusal) [
-            | true ↦ λ e. (let some = clause_line_positive (sheet body) (ltb-true 0 (run body).refusal e) in
+          elim (run body).refusal as (λ (r : Option Refusal). (run body).refusal ≡ r → answered (bundle body) room ≡ refused 0 refusal) [
+            | Some why ↦ λ e. (let some = clause_line_positive (sheet body) (ap is_refused e) in
                 absurd (omega (arith, some, ap line_in (sym h ∙ refused-sheet body sheet-fits e room))))
-            | false ↦ λ e. accepted-answered e room ∙ h
+            | None ↦ λ e. accepted-answered e room ∙ h
           ]
           refl
 
       -- refused at a line: its `no` line, where there is room for that
       pub one-refused :
-          (out : List ℕ) {number refusal : ℕ} → 1 ≤ number → sheet_answered (sheet body) (length out) ≡ Refused number refusal
+          (out : List ℕ) {number : ℕ} {refusal : Refusal} → 1 ≤ number → sheet_answered (sheet body) (length out) ≡ refused number refusal
           → length (refusal_text number refusal) ≤ length out
           → AnsweredWith (bundle body) out (refusal_text number refusal)
       one-refused out some h room =
@@ -92,8 +93,8 @@ module _ (body : Body) where
           (bodies_texts (body ∷ []) own out (record { bundle-fits = short; text-fits = fits }))
 
       pub one-refused_roomless :
-          (room : ℕ) {number refusal : ℕ} → 1 ≤ number → sheet_answered (sheet body) room ≡ Refused number refusal
+          (room : ℕ) {number : ℕ} {refusal : Refusal} → 1 ≤ number → sheet_answered (sheet body) room ≡ refused number refusal
           → room < length (refusal_text number refusal)
-          → answered (bundle body) room ≡ Refused 0 refused_room
+          → answered (bundle body) room ≡ refused 0 Room
       one-refused_roomless room some h small =
           bodies_roomless (body ∷ []) own room short (omega (arith, small, ap length (no_line room some h)))

@@ -1,16 +1,17 @@
 -- What is printed is whole lines. A clause's last line is its only one with the word `end` or `no` (rule 18.8). A clause is
 -- refused at one of its own lines, so that none begins with the fields `no`, `0` (rule 18.4).
 use Prim.Native.Nat.{ℕ, zero, suc, ◌≤◌, ◌<◌, ◌/◌, ◌%◌}
-use Rattle.std.specs.Prelude.{◌≡◌, Bool, true, false, ◌&&◌, ◌⊎◌, eqb, ltb, length, take}
+use Rattle.std.specs.Prelude.{◌≡◌, Bool, true, false, ◌&&◌, ◌⊎◌, eqb, ltb, length, take, Option, Some, None, Ok}
 use Rattle.std.proofs.Math.Path.{refl, ap}
-use Rattle.std.proofs.Common.{ap₂, subst, sym, ◌∙◌, arith, length-append, take_at}
+use Rattle.std.proofs.Common.{ap₂, subst, sym, ◌∙◌, arith, length-append, take_at, true≢false}
 use Rattle.std.proofs.Math.Bool.{not, false≢true}
 use Rattle.std.proofs.Math.Logic.{inl, inr, ⊎_elim}
 use mathlib.Core.List.{List, [], ◌∷◌, ◌++◌, append_assoc}
 use borrow.Author.Tests.{ne_eqb, not-true, ltb-true, ltb-false}
 use Rattle.notation.specs.ChoiceLaws.{both_true, either, by_test}
 use Rattle.notation.specs.Text.{byte, bytes}
-use Rattle.refusals.specs.Refusals.{refused_form}
+use Rattle.refusals.specs.declared.Refusal.{Refusal}
+use Rattle.refusals.specs.Refusals.{number_of as refusal_number, refused_form, is_refused}
 use Rattle.split.specs.Split.{tab, line_feed, before, split, joined}
 use Rattle.split.specs.SplitLaws.{split-some}
 use Rattle.split.specs.SplitTrips.{free, all_free, split-joined}
@@ -27,12 +28,9 @@ use Rattle.instructions.specs.Instructions.{line, instruction_text, at_text}
 use Rattle.code_deque.specs.declared.CodeDeque.{CodeDeque}
 use Rattle.code_deque.specs.declared.CodeDeque.TheVariants.{Empty, One, Two, Three}
 use Rattle.debray_allocator.specs.declared.State.{State}
-use Rattle.debray_allocator.specs.declared.At.{At}
-use Rattle.debray_allocator.specs.declared.At.TheVariants.{Nowhere, Place}
 use Rattle.debray_allocator.specs.declared.Answer.{Answer}
 use Rattle.debray_allocator.specs.State.{fresh_state}
 use Rattle.answers.specs.Answers.{code_text, place_text, answer_text, text_of, end_text}
-use Rattle.answered.specs.declared.Answered.TheVariants.{Written}
 use Rattle.answered.specs.Answered.{refusal_text}
 use Rattle.event_sheets.specs.EventSheets.{
   Ran,
@@ -47,7 +45,7 @@ use Rattle.event_sheets.specs.EventSheets.{
   ran,
   sheet_ran,
 }
-use Rattle.bundles.specs.Bundles.{lines_of, clauses, sheet_of, ran_text, clause_text, clause_texts, is_unended, answered, filled}
+use Rattle.bundles.specs.Bundles.{lines_of, clauses, sheet_of, told_or, ran_text, clause_text, clause_texts, is_unended, answered, filled}
 use Rattle.bundles.specs.LinesLaws.{lines_sheet, sheet_append, sheet-ended}
 use Rattle.bundle_exactly.specs.Exactly.{Body, bundle_text, NoAtZero, EndsAnswer, Each, EndsOnce}
 use Rattle.bundle_exactly.proofs.ReadBackLaws.{free_append}
@@ -56,7 +54,7 @@ use Rattle.bundle_exactly.proofs.RefusedLaws.{written_exactly, written-filled}
 -- ---- The line of a refusal
 
 abbrev From : ℕ → Ran → Type 0
-From number r = 0 < r.refusal → number ≤ r.line
+From number r = is_refused r.refusal ≡ true → number ≤ r.line
 
 -- what a line prints, and the lines behind it
 abbrev later : State → ℕ → List ℕ → List (List ℕ) → Ran
@@ -65,19 +63,19 @@ later s number text parts =
 
 ran-from : (parts : List (List ℕ)) (s : State) (number : ℕ) → From number (ran s number parts)
 unfolding ran last_ran line_ran
-ran-from [] s number = λ h. absurd (omega arith)
+ran-from [] s number = λ h. absurd (false≢true h)
 ran-from (left ∷ []) s number =
     by_test (From number) (ltb 0 (length left)) {a = refused_at number refused_form} {b = ended s.counters}
     (λ e h. omega arith)
-    (λ e h. absurd (omega arith))
+    (λ e h. absurd (false≢true h))
 ran-from (text ∷ (next ∷ parts)) s number =
-    by_test (From number) (ltb 0 (line_answer s text).refusal)
+    by_test (From number) (is_refused (line_answer s text).refusal)
     {a = refused_at number (line_answer s text).refusal} {b = later s number text (next ∷ parts)}
     (λ e h. omega arith)
     (λ e h. omega (arith, ran-from (next ∷ parts) (line_answer s text).state (suc number) h))
 
 -- rule 18.4: what is refused in a clause is refused at one of its lines, which are counted from 1
-pub clause_line_positive : (sheet : List ℕ) → 0 < (sheet_ran sheet).refusal → 1 ≤ (sheet_ran sheet).line
+pub clause_line_positive : (sheet : List ℕ) → is_refused (sheet_ran sheet).refusal ≡ true → 1 ≤ (sheet_ran sheet).line
 unfolding sheet_ran
 clause_line_positive sheet = ran-from (split line_feed sheet) fresh_state 1
 
@@ -357,10 +355,10 @@ code_lines (One i) = instruction_line i
 code_lines (Two i j) = lines_append (instruction_line i) (instruction_line j)
 code_lines (Three i j k) = lines_append (lines_append (instruction_line i) (instruction_line j)) (instruction_line k)
 
-place_lines : (place : At) → Lines GoesOn (place_text place)
+place_lines : (place : Option RegType) → Lines GoesOn (place_text place)
 unfolding at_text is_word free same
-place_lines Nowhere = no_lines
-place_lines (Place place) = place_line (bytes "at") refl place
+place_lines None = no_lines
+place_lines (Some place) = place_line (bytes "at") refl place
 
 answer_lines : (a : Answer) → Lines GoesOn (text_of a)
 unfolding answer_text
@@ -378,11 +376,11 @@ end-last m p =
     (inl refl)
     (λ fields e. (let alike : bytes "end" ≡ bytes "no" = cc in omega (arith, ap length alike)))
 
-refusal_last : (number refusal : ℕ) → 1 ≤ number → Last (refusal_text number refusal)
+refusal_last : (number : ℕ) (refusal : Refusal) → 1 ≤ number → Last (refusal_text number refusal)
 unfolding refusal_text Clear all_free free
 refusal_last number refusal some =
-    last_line (bytes "no") (decimal number ∷ decimal refusal ∷ [])
-    (numbers_free tab low_tab number refusal, numbers_free line_feed low_feed number refusal)
+    last_line (bytes "no") (decimal number ∷ decimal (refusal_number refusal) ∷ [])
+    (numbers_free tab low_tab number (refusal_number refusal), numbers_free line_feed low_feed number (refusal_number refusal))
     (inr refl)
     (λ fields e. (let at_zero : decimal number ≡ bytes "0" = cc in omega (arith, zero-printed number at_zero)))
 
@@ -390,7 +388,7 @@ refusal_last number refusal some =
 
 -- a run that is not refused
 abbrev ClosedBy : Ran → Type 0
-ClosedBy r = r.refusal ≤ 0 → Closed r.text
+ClosedBy r = is_refused r.refusal ≡ false → Closed r.text
 
 ended-closed : (s : State) → ClosedBy (ended s.counters)
 ended-closed s h = only-last (end-last (max_reg_allocated s.counters) (num_perm_vars s.counters))
@@ -400,22 +398,24 @@ unfolding ran last_ran line_ran
 ran-closed [] s number = ended-closed s
 ran-closed (left ∷ []) s number =
     either ClosedBy (ltb 0 (length left)) {a = refused_at number refused_form} {b = ended s.counters}
-    (λ h. absurd (omega arith))
+    (λ h. absurd (true≢false h))
     (ended-closed s)
 ran-closed (text ∷ (next ∷ parts)) s number =
     let a = line_answer s text in
-    by_test ClosedBy (ltb 0 a.refusal)
+    by_test ClosedBy (is_refused a.refusal)
     {a = refused_at number a.refusal} {b = later s number text (next ∷ parts)}
-    (λ e h. absurd (omega (arith, ltb-true 0 a.refusal e)))
+    (λ e h. absurd (true≢false (sym e ∙ h)))
     (λ e h. going_before (answer_lines a) (ran-closed (next ∷ parts) a.state (suc number) h))
 
 clause_closed : (body : Body) → Closed (clause_text body)
 unfolding clause_text ran_text sheet_ran
 clause_closed body =
     let r = sheet_ran (sheet_of body) in
-    by_test Closed (ltb 0 r.refusal)
-    (λ e. only-last (refusal_last r.line r.refusal (clause_line_positive (sheet_of body) (ltb-true 0 r.refusal e))))
-    (λ e. ran-closed (split line_feed (sheet_of body)) fresh_state 1 (ltb-false 0 r.refusal e))
+    elim r.refusal as (λ (refusal : Option Refusal). r.refusal ≡ refusal → Closed (told_or r.line refusal r.text)) [
+      | Some refusal ↦ λ e. only-last (refusal_last r.line refusal (clause_line_positive (sheet_of body) (ap is_refused e)))
+      | None ↦ λ e. ran-closed (split line_feed (sheet_of body)) fresh_state 1 (ap is_refused e)
+    ]
+    refl
 
 -- rule 18.8: so a host can cut what is written into the answers of its clauses, behind each `end` or `no` line
 pub cut_behind : (body : Body) → EndsOnce (clause_text body)
@@ -431,7 +431,7 @@ unfolding clause_texts
 texts_lines [] = no_lines
 texts_lines (body ∷ bodies) = lines_append (clause_lines body) (texts_lines bodies)
 
-module _ (bundle out : List ℕ) {count : ℕ} (h : answered bundle (length out) ≡ Written count) where
+module _ (bundle out : List ℕ) {count : ℕ} (h : answered bundle (length out) ≡ Ok count) where
   written_lines : Lines NotAtZero (take count (filled bundle out))
   written_lines =
       let told = (written_exactly bundle (length out)).0 h in

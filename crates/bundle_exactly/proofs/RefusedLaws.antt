@@ -1,15 +1,15 @@
 -- Rule 18.6, both ways and in any room: when a bundle is given each refusal and when it is written; and that no other is given.
-use Rattle.std.specs.Prelude.{ℕ, ◌≤◌, ◌<◌, ◌≡◌, refl, true, false, ◌↔◌, List, ◌++◌, ltb, length, drop}
+use Rattle.std.specs.Prelude.{ℕ, ◌≤◌, ◌<◌, ◌≡◌, refl, true, false, ◌↔◌, List, ◌++◌, ltb, length, drop, Ok}
 use Rattle.std.proofs.Math.Path.{ap}
 use Rattle.std.proofs.Common.{ap₂, subst, sym, ◌∙◌, inl, inr, ⊎_elim, arith}
 use mathlib.Core.Logic.Iff
 use borrow.Author.Tests.{ltb-true, ltb-false, lt-ltb, le-ltb}
 use Rattle.notation.specs.ChoiceLaws.{by_test}
-use Rattle.refusals.specs.Refusals.{refused_form, refused_order, refused_full, refused_room}
+use Rattle.refusals.specs.declared.Refusal.{Refusal}
+use Rattle.refusals.specs.declared.Refusal.TheVariants.{Form, Order, Full, Room}
+use Rattle.refusals.specs.Refusals.{refused_form, refused_order, refused_full}
 use Rattle.sizes.specs.Sizes.{sheet_bytes}
-use Rattle.answered.specs.declared.Answered.{Answered}
-use Rattle.answered.specs.declared.Answered.TheVariants.{Written, Refused}
-use Rattle.answered.specs.Answered.{number_of, filled_by}
+use Rattle.answered.specs.Answered.{Answered, refused, number_of, filled_by}
 use Rattle.answered.specs.NumberLaws.{TellsApart, small_told, number_tells, roomless as roomless-tells}
 use Rattle.event_sheets.specs.EventSheets.{Ran, refused_at, answered_by}
 use Rattle.bundles.specs.Bundles.{lines_of, is_unended, is_stray, has_more, all_ran, bundle_ran, answered, filled}
@@ -35,11 +35,11 @@ use Rattle.bundle_exactly.proofs.TestsLaws.{unended_exactly, unended_no, stray_e
 -- ---- What is due is given
 
 module _ (text : List ℕ) (room : ℕ) where
-  text_roomless : room < length text → answered_by (all_ran text) room ≡ Refused 0 refused_room
+  text_roomless : room < length text → answered_by (all_ran text) room ≡ refused 0 Room
   unfolding answered_by
   text_roomless h = simp (lt-ltb room (length text) h)
 
-  text-written : length text ≤ room → answered_by (all_ran text) room ≡ Written (length text)
+  text-written : length text ≤ room → answered_by (all_ran text) room ≡ Ok (length text)
   unfolding answered_by
   text-written h = simp (le-ltb room (length text) h)
 
@@ -125,16 +125,16 @@ module _ (bundle : List ℕ) (room : ℕ) where
 -- ---- Each refusal
 
 module _ {bundle : List ℕ} {room : ℕ} where
-  full_due : Due bundle room (Refused 0 refused_full) → TooLong bundle
+  full_due : Due bundle room (refused 0 Full) → TooLong bundle
   full_due (full long) = long
 
-  form_due : Due bundle room (Refused 0 refused_form) → (length bundle ≤ sheet_bytes) × OfBadForm bundle
+  form_due : Due bundle room (refused 0 Form) → (length bundle ≤ sheet_bytes) × OfBadForm bundle
   form_due (unended short u) = (short, inl u)
   form_due (more short u s m) = (short, inr (s, m))
 
-  due_form : length bundle ≤ sheet_bytes → OfBadForm bundle → Due bundle room (Refused 0 refused_form)
+  due_form : length bundle ≤ sheet_bytes → OfBadForm bundle → Due bundle room (refused 0 Form)
   due_form short bad =
-      elim (is_unended bundle) as (λ t. is_unended bundle ≡ t → Due bundle room (Refused 0 refused_form)) [
+      elim (is_unended bundle) as (λ t. is_unended bundle ≡ t → Due bundle room (refused 0 Form)) [
         | true ↦ λ e. unended short ((unended_exactly bundle).0 e)
         | false ↦ λ e. (let ended = (unended_no bundle).0 e in
             ⊎_elim (λ u. absurd (ended u)) (λ told. more short ended told.0 told.1) bad)
@@ -142,18 +142,18 @@ module _ {bundle : List ℕ} {room : ℕ} where
       refl
 
   order_due :
-      Due bundle room (Refused 0 refused_order) → (length bundle ≤ sheet_bytes) × (¬ Unended bundle) × Stray (lines_of bundle)
+      Due bundle room (refused 0 Order) → (length bundle ≤ sheet_bytes) × (¬ Unended bundle) × Stray (lines_of bundle)
   order_due (stray short u s) = (short, u, s)
 
-  room_due : Due bundle room (Refused 0 refused_room) → IsBundle bundle × (room < length (bundle_text bundle))
+  room_due : Due bundle room (refused 0 Room) → IsBundle bundle × (room < length (bundle_text bundle))
   room_due (roomless whole h) = (whole, h)
 
   written_due :
-      {count : ℕ} → Due bundle room (Written count)
+      {count : ℕ} → Due bundle room (Ok count)
       → IsBundle bundle × (length (bundle_text bundle) ≤ room) × (count ≡ length (bundle_text bundle))
   written_due (written whole h) = (whole, h, refl)
 
-  only_due : {line refusal : ℕ} → Due bundle room (Refused line refusal) → GivenToBundles line refusal
+  only_due : {line : ℕ} {refusal : Refusal} → Due bundle room (refused line refusal) → GivenToBundles line refusal
   only_due (full long) = (refl, inl refl)
   only_due (unended short u) = (refl, inr (inl refl))
   only_due (stray short u s) = (refl, inr (inr (inl refl)))
@@ -170,34 +170,34 @@ module _ {bundle : List ℕ} {room : ℕ} where
 
 module _ (bundle : List ℕ) (room : ℕ) where
   -- 7: it is longer than 65,536 bytes
-  pub length_exactly : (answered bundle room ≡ Refused 0 refused_full) ↔ TooLong bundle
+  pub length_exactly : (answered bundle room ≡ refused 0 Full) ↔ TooLong bundle
   length_exactly = Iff.trans (answered_exactly bundle room _) (full_due, full)
 
   -- 1: its last byte is no LF, or none is stray and a `clause` line has more fields
-  pub form_exactly : (answered bundle room ≡ Refused 0 refused_form) ↔ ((length bundle ≤ sheet_bytes) × OfBadForm bundle)
+  pub form_exactly : (answered bundle room ≡ refused 0 Form) ↔ ((length bundle ≤ sheet_bytes) × OfBadForm bundle)
   form_exactly = Iff.trans (answered_exactly bundle room _) (form_due, λ told. due_form told.0 told.1)
 
   -- 2: a line stands before the first `clause`
   pub order_exactly :
-      (answered bundle room ≡ Refused 0 refused_order)
+      (answered bundle room ≡ refused 0 Order)
       ↔ ((length bundle ≤ sheet_bytes) × (¬ Unended bundle) × Stray (lines_of bundle))
   order_exactly = Iff.trans (answered_exactly bundle room _) (order_due, λ told. stray told.0 told.1 told.2)
 
   -- 9: nothing of all that, and the text is longer than the room
-  pub room_exactly : (answered bundle room ≡ Refused 0 refused_room) ↔ (IsBundle bundle × (room < length (bundle_text bundle)))
+  pub room_exactly : (answered bundle room ≡ refused 0 Room) ↔ (IsBundle bundle × (room < length (bundle_text bundle)))
   room_exactly = Iff.trans (answered_exactly bundle room _) (room_due, λ told. roomless told.0 told.1)
 
   -- and else it is written
   pub written_exactly :
       {count : ℕ}
-      → (answered bundle room ≡ Written count)
+      → (answered bundle room ≡ Ok count)
       ↔ (IsBundle bundle × (length (bundle_text bundle) ≤ room) × (count ≡ length (bundle_text bundle)))
   written_exactly =
       Iff.trans (answered_exactly bundle room _)
-      (written_due, λ told. subst (λ count. Due bundle room (Written count)) (sym told.2) (written told.0 told.1))
+      (written_due, λ told. subst (λ count. Due bundle room (Ok count)) (sym told.2) (written told.0 told.1))
 
   -- no other refusal is given, and none but at line 0
-  pub given_only : {line refusal : ℕ} → answered bundle room ≡ Refused line refusal → GivenToBundles line refusal
+  pub given_only : {line : ℕ} {refusal : Refusal} → answered bundle room ≡ refused line refusal → GivenToBundles line refusal
   given_only e = only_due ((answered_exactly bundle room _).0 e)
 
   pub bundle_tells : TellsApart (answered bundle room)

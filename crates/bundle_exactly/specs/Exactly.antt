@@ -1,13 +1,13 @@
 -- What a bundle is made of, what is due to it, and what it prints, in words of its bytes and lines alone: rules 18.1 to 18.8.
-use Rattle.std.specs.Prelude.{ℕ, zero, suc, ◌≤◌, ◌<◌, ◌≡◌, Bool, true, not, ◌&&◌, ◌≢◌, ◌⊎◌, List, [], ◌∷◌, ◌++◌, ltb, length, drop, replicate}
+use Rattle.std.specs.Prelude.{ℕ, zero, suc, ◌≤◌, ◌<◌, ◌≡◌, Bool, true, not, ◌&&◌, ◌≢◌, ◌⊎◌, List, [], ◌∷◌, ◌++◌, ltb, length, drop, replicate, Ok}
 use Rattle.std.specs.Prelude.{if◌then◌else◌}
 use Rattle.notation.specs.Text.{bytes}
-use Rattle.refusals.specs.Refusals.{refused_form, refused_order, refused_full, refused_room}
+use Rattle.refusals.specs.declared.Refusal.{Refusal}
+use Rattle.refusals.specs.declared.Refusal.TheVariants.{Form, Order, Full, Room}
 use Rattle.sizes.specs.Sizes.{sheet_bytes}
 use Rattle.split.specs.Split.{tab, line_feed, before, split}
 use Rattle.split.specs.SplitTrips.{all_free}
-use Rattle.answered.specs.declared.Answered.{Answered}
-use Rattle.answered.specs.declared.Answered.TheVariants.{Written, Refused}
+use Rattle.answered.specs.Answered.{Answered, refused}
 use Rattle.bundles.specs.Bundles.{lines_of, clause_word, is_clause, clauses, sheet_of, clause_texts, answered, filled}
 
 -- ---- What a bundle is made of
@@ -77,26 +77,26 @@ bundle_text bundle = clause_texts (clauses (lines_of bundle))
 -- ---- What is due to a bundle, in the order of rule 18.6
 
 pub data Due (bundle : List ℕ) (room : ℕ) : Answered → Type 0 where
-  full : TooLong bundle → Due bundle room (Refused 0 refused_full)
-  unended : length bundle ≤ sheet_bytes → Unended bundle → Due bundle room (Refused 0 refused_form)
-  stray : length bundle ≤ sheet_bytes → ¬ Unended bundle → Stray (lines_of bundle) → Due bundle room (Refused 0 refused_order)
+  full : TooLong bundle → Due bundle room (refused 0 Full)
+  unended : length bundle ≤ sheet_bytes → Unended bundle → Due bundle room (refused 0 Form)
+  stray : length bundle ≤ sheet_bytes → ¬ Unended bundle → Stray (lines_of bundle) → Due bundle room (refused 0 Order)
   more :
       length bundle ≤ sheet_bytes → ¬ Unended bundle → ¬ Stray (lines_of bundle) → MoreFields (lines_of bundle)
-      → Due bundle room (Refused 0 refused_form)
-  roomless : IsBundle bundle → room < length (bundle_text bundle) → Due bundle room (Refused 0 refused_room)
-  written : IsBundle bundle → length (bundle_text bundle) ≤ room → Due bundle room (Written (length (bundle_text bundle)))
+      → Due bundle room (refused 0 Form)
+  roomless : IsBundle bundle → room < length (bundle_text bundle) → Due bundle room (refused 0 Room)
+  written : IsBundle bundle → length (bundle_text bundle) ≤ room → Due bundle room (Ok (length (bundle_text bundle)))
 
 -- what is ever given: 7, 1, 2 or 9, and at line 0
-abbrev pub GivenToBundles : ℕ → ℕ → Type 0
+abbrev pub GivenToBundles : ℕ → Refusal → Type 0
 GivenToBundles line refusal =
-    (line ≡ 0) × ((refusal ≡ refused_full) ⊎ (refusal ≡ refused_form) ⊎ (refusal ≡ refused_order) ⊎ (refusal ≡ refused_room))
+    (line ≡ 0) × ((refusal ≡ Full) ⊎ (refusal ≡ Form) ⊎ (refusal ≡ Order) ⊎ (refusal ≡ Room))
 
 -- ---- What a bundle of bodies is answered with
 
 -- by the lengths of the bundle and of its text alone
 abbrev pub sized_answer : ℕ → ℕ → ℕ → Answered
 sized_answer bundle text room =
-    if ltb sheet_bytes bundle then Refused 0 refused_full else if ltb room text then Refused 0 refused_room else Written text
+    if ltb sheet_bytes bundle then refused 0 Full else if ltb room text then refused 0 Room else Ok text
 
 -- rule 18.5: the bundle and its text fit
 pub record Fits (bodies : List Body) (room : ℕ) : Type 0 where
@@ -105,7 +105,7 @@ pub record Fits (bodies : List Body) (room : ℕ) : Type 0 where
 
 -- a bundle is answered with a text: its count, its bytes, and the lent bytes past them as they were
 pub record AnsweredWith (bundle out text : List ℕ) : Type 0 where
-  pub count : answered bundle (length out) ≡ Written (length text)
+  pub count : answered bundle (length out) ≡ Ok (length text)
   pub bytes : filled bundle out ≡ text ++ drop (length text) out
 
 -- two lists, with what stands before, between and behind them

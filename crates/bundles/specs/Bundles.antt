@@ -1,13 +1,13 @@
 -- The whole answer to a bundle, for every list of bytes and every room: rules 1.1, 18.1 to 18.4, 18.6, 18.7.
-use Rattle.std.specs.Prelude.{ℕ, ◌-◌, Bool, false, not, ◌&&◌, ◌||◌, List, [], ◌∷◌, ◌++◌, eqb, ltb, length, get_or, take}
+use Rattle.std.specs.Prelude.{ℕ, ◌-◌, Bool, false, not, ◌&&◌, ◌||◌, List, [], ◌∷◌, ◌++◌, eqb, ltb, length, get_or, take, Option, Some, None}
 use Rattle.std.specs.Prelude.{if◌then◌else◌}
 use Rattle.notation.specs.Text.{bytes}
+use Rattle.refusals.specs.declared.Refusal.{Refusal}
 use Rattle.refusals.specs.Refusals.{accepted, refused_form, refused_order, refused_full}
 use Rattle.sizes.specs.Sizes.{sheet_bytes}
 use Rattle.split.specs.Split.{tab, line_feed, before, split}
 use Rattle.words.specs.Words.{same}
-use Rattle.answered.specs.declared.Answered.{Answered}
-use Rattle.answered.specs.Answered.{filled_by, refusal_text}
+use Rattle.answered.specs.Answered.{Answered, filled_by, refusal_text}
 use Rattle.event_sheets.specs.EventSheets.{Ran, refused_at, sheet_ran, answered_by}
 
 -- ---- Lines, and the clauses among them
@@ -41,8 +41,12 @@ sheet_of [] = []
 sheet_of (line ∷ lines) = line ++ (line_feed ∷ sheet_of lines)
 
 -- rules 18.4, 18.7: of a sheet that is refused only its `no` line
+abbrev pub told_or : ℕ → Option Refusal → List ℕ → List ℕ
+told_or line (Some refusal) text = refusal_text line refusal
+told_or line None text = text
+
 unfoldable pub ran_text : Ran → List ℕ
-ran_text r = if ltb 0 r.refusal then refusal_text r.line r.refusal else r.text
+ran_text r = told_or r.line r.refusal r.text
 
 unfoldable pub clause_text : List (List ℕ) → List ℕ
 clause_text lines = ran_text (sheet_ran (sheet_of lines))

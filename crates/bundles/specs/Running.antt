@@ -1,6 +1,7 @@
 -- One run over the clauses of a bundle: what refuses it before, what it answers, and what holds between two clauses.
-use Rattle.std.specs.Prelude.{ℕ, ◌+◌, ◌*◌, ◌≤◌, ◌≡◌, true, false, List, ◌++◌, ltb, length, take}
+use Rattle.std.specs.Prelude.{ℕ, ◌+◌, ◌*◌, ◌≤◌, ◌≡◌, true, false, List, ◌++◌, ltb, length, take, Option}
 use Rattle.std.specs.Prelude.{if◌then◌else◌}
+use Rattle.refusals.specs.declared.Refusal.{Refusal}
 use Rattle.refusals.specs.Refusals.{accepted, refused_form, refused_order, refused_full}
 use Rattle.sizes.specs.Sizes.{sheet_bytes}
 use Rattle.split.specs.Split.{line_feed, before}
@@ -10,7 +11,7 @@ use Rattle.event_sheets.specs.EventSheets.{Ran, refused_at}
 use Rattle.bundles.specs.Bundles.{lines_of, is_unended, is_stray, has_more, until_clause, clauses, clause_texts, sheet_of, all_ran}
 
 -- the first three of rule 18.6: length, LF, order
-unfoldable pub refusal_before : List ℕ → ℕ
+unfoldable pub refusal_before : List ℕ → Option Refusal
 refusal_before bundle =
     if ltb sheet_bytes (length bundle) then refused_full
     else if is_unended bundle then refused_form else if is_stray (lines_of bundle) then refused_order else accepted

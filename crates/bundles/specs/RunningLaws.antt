@@ -1,5 +1,5 @@
 -- Laws of a run over a bundle: what refuses it before, where a clause ends, a clause, and what stands between two of them.
-use Rattle.std.specs.Prelude.{ℕ, zero, suc, ◌+◌, ◌-◌, ◌*◌, ◌≤◌, ◌<◌, ◌≡◌, not, get_or, drop}
+use Rattle.std.specs.Prelude.{ℕ, zero, suc, ◌+◌, ◌-◌, ◌*◌, ◌≤◌, ◌<◌, ◌≡◌, not, get_or, drop, Some, None}
 use Rattle.std.proofs.Math.Path.{refl, ap, ap₂, sym, subst}
 use Rattle.std.proofs.Common.{◌∙◌, zero-add, arith, take_all, take_at, drop_at}
 use Rattle.std.proofs.Math.Bool.{true, false}
@@ -9,8 +9,9 @@ use Rattle.std.proofs.Math.ListN.{length, take, length-append, length-take}
 use borrow.Author.Tests.{lt-ltb, le-ltb, eq-eqb, ne_eqb, ltb-true, ltb-false}
 use Rattle.std.specs.Prelude.{if◌then◌else◌}
 use Rattle.notation.specs.Text.{bytes}
-use Rattle.notation.specs.ChoiceLaws.{both_true, either}
-use Rattle.refusals.specs.Refusals.{accepted, refused_form, refused_order, refused_full}
+use Rattle.notation.specs.ChoiceLaws.{both_true}
+use Rattle.refusals.specs.declared.Refusal.{Refusal}
+use Rattle.refusals.specs.Refusals.{number_of as refusal_number, accepted, refused_form, refused_order, refused_full, is_refused}
 use Rattle.sizes.specs.Sizes.{sheet_bytes}
 use Rattle.split.specs.Split.{tab, line_feed, before, after, joined}
 use Rattle.split.specs.SplitLaws.{take-before, drop-before, after-length}
@@ -33,6 +34,7 @@ use Rattle.bundles.specs.Bundles.{
   until_clause,
   clauses,
   sheet_of,
+  told_or,
   ran_text,
   clause_text,
   clause_texts,
@@ -131,24 +133,24 @@ stray_empty bundle h = ap is_stray (lines_last bundle (omega arith))
 -- ---- The whole bundle: before its clauses, or by them
 
 module _ (bundle : List ℕ) where
-  pub bundle-refused : 0 < refusal_before bundle → bundle_ran bundle ≡ refused_at 0 (refusal_before bundle)
+  pub bundle-refused : is_refused (refusal_before bundle) ≡ true → bundle_ran bundle ≡ refused_at 0 (refusal_before bundle)
   unfolding bundle_ran refusal_before
   bundle-refused =
       elim (ltb sheet_bytes (length bundle)) as
-      (λ t. 0 < (if t then refused_full else if is_unended bundle then refused_form else if is_stray (lines_of bundle) then refused_order else accepted)
+      (λ t. is_refused (if t then refused_full else if is_unended bundle then refused_form else if is_stray (lines_of bundle) then refused_order else accepted) ≡ true
       → (if t then refused_at 0 refused_full else if is_unended bundle then refused_at 0 refused_form else if is_stray (lines_of bundle) then refused_at 0 refused_order else if has_more (lines_of bundle) then refused_at 0 refused_form else all_ran (clause_texts (clauses (lines_of bundle))))
       ≡ refused_at 0 (if t then refused_full else if is_unended bundle then refused_form else if is_stray (lines_of bundle) then refused_order else accepted)) [
         | true ↦ λ h. refl
         | false ↦ elim (is_unended bundle) as
-            (λ t. 0 < (if t then refused_form else if is_stray (lines_of bundle) then refused_order else accepted)
+            (λ t. is_refused (if t then refused_form else if is_stray (lines_of bundle) then refused_order else accepted) ≡ true
             → (if t then refused_at 0 refused_form else if is_stray (lines_of bundle) then refused_at 0 refused_order else if has_more (lines_of bundle) then refused_at 0 refused_form else all_ran (clause_texts (clauses (lines_of bundle))))
             ≡ refused_at 0 (if t then refused_form else if is_stray (lines_of bundle) then refused_order else accepted)) [
               | true ↦ λ h. refl
               | false ↦ elim (is_stray (lines_of bundle)) as
-                  (λ t. 0 < (if t then refused_order else accepted)
+                  (λ t. is_refused (if t then refused_order else accepted) ≡ true
                   → (if t then refused_at 0 refused_order else if has_more (lines_of bundle) then refused_at 0 refused_form else all_ran (clause_texts (clauses (lines_of bundle))))
                   ≡ refused_at 0 (if t then refused_order else accepted))
-                  [ true ↦ λ h. refl | false ↦ λ h. absurd (omega arith) ]
+                  [ true ↦ λ h. refl | false ↦ λ h. cc ]
             ]
       ]
 
@@ -158,20 +160,20 @@ module _ (bundle : List ℕ) where
     pub ended : is_unended bundle ≡ false
     pub begun : is_stray (lines_of bundle) ≡ false
 
-  pub bundle-begins : refusal_before bundle ≤ 0 → Begins
+  pub bundle-begins : refusal_before bundle ≡ accepted → Begins
   unfolding refusal_before
   bundle-begins =
       elim (ltb sheet_bytes (length bundle)) as
       (λ t. ltb sheet_bytes (length bundle) ≡ t
-      → (if t then refused_full else if is_unended bundle then refused_form else if is_stray (lines_of bundle) then refused_order else accepted) ≤ 0
+      → (if t then refused_full else if is_unended bundle then refused_form else if is_stray (lines_of bundle) then refused_order else accepted) ≡ accepted
       → Begins) [
-        | true ↦ λ e h. absurd (omega arith)
+        | true ↦ λ e h. cc
         | false ↦ λ e. elim (is_unended bundle) as
-            (λ t. is_unended bundle ≡ t → (if t then refused_form else if is_stray (lines_of bundle) then refused_order else accepted) ≤ 0 → Begins) [
-              | true ↦ λ u h. absurd (omega arith)
+            (λ t. is_unended bundle ≡ t → (if t then refused_form else if is_stray (lines_of bundle) then refused_order else accepted) ≡ accepted → Begins) [
+              | true ↦ λ u h. cc
               | false ↦ λ u. elim (is_stray (lines_of bundle)) as
-                  (λ t. is_stray (lines_of bundle) ≡ t → (if t then refused_order else accepted) ≤ 0 → Begins) [
-                    | true ↦ λ b h. absurd (omega arith)
+                  (λ t. is_stray (lines_of bundle) ≡ t → (if t then refused_order else accepted) ≡ accepted → Begins) [
+                    | true ↦ λ b h. cc
                     | false ↦ λ b h. record { short = ltb-false _ _ e; ended = u; begun = b }
                   ]
                   refl
@@ -241,33 +243,32 @@ module _ {rest left : List ℕ} {bytes end : ℕ} (k : Seeking rest left bytes e
 abbrev pub refusal_bytes : ℕ
 refusal_bytes = 32
 
-pub refusal_short : (number refusal : ℕ) → length (refusal_text number refusal) ≤ refusal_bytes
+pub refusal_short : (number : ℕ) (refusal : Refusal) → length (refusal_text number refusal) ≤ refusal_bytes
 unfolding refusal_text instructions.line joined
 refusal_short number refusal =
     omega (
       arith,
-      length-append (bytes "no" ++ (tab ∷ (decimal number ++ (tab ∷ decimal refusal)))) (line_feed ∷ []),
-      length-append (decimal number) (tab ∷ decimal refusal),
+      length-append (bytes "no" ++ (tab ∷ (decimal number ++ (tab ∷ decimal (refusal_number refusal))))) (line_feed ∷ []),
+      length-append (decimal number) (tab ∷ decimal (refusal_number refusal)),
       decimal-length number,
-      decimal-length refusal,
+      decimal-length (refusal_number refusal),
     )
 
 module _ (sheet : List ℕ) where
-  text-refused : 0 < (sheet_ran sheet).refusal → ran_text (sheet_ran sheet) ≡ refusal_text (sheet_ran sheet).line (sheet_ran sheet).refusal
+  text-refused : {refusal : Refusal} → (sheet_ran sheet).refusal ≡ Some refusal → ran_text (sheet_ran sheet) ≡ refusal_text (sheet_ran sheet).line refusal
   unfolding ran_text
-  text-refused h = simp (lt-ltb _ _ h)
+  text-refused h = simp h
 
-  text-accepted : (sheet_ran sheet).refusal ≤ 0 → ran_text (sheet_ran sheet) ≡ (sheet_ran sheet).text
+  text-accepted : (sheet_ran sheet).refusal ≡ accepted → ran_text (sheet_ran sheet) ≡ (sheet_ran sheet).text
   unfolding ran_text
-  text-accepted h = simp (le-ltb _ _ h)
+  text-accepted h = simp h
 
   -- it is no longer than the longest that its lines can
   pub clause_short : length (ran_text (sheet_ran sheet)) ≤ longest * (length sheet + 1)
   unfolding ran_text
   clause_short =
-      either (λ (text : List ℕ). length text ≤ longest * (length sheet + 1)) (ltb 0 (sheet_ran sheet).refusal)
-      (omega (arith, refusal_short (sheet_ran sheet).line (sheet_ran sheet).refusal))
-      (sheet_short sheet)
+      elim (sheet_ran sheet).refusal as (λ r. length (told_or (sheet_ran sheet).line r (sheet_ran sheet).text) ≤ longest * (length sheet + 1))
+      [ Some refusal ↦ omega (arith, refusal_short (sheet_ran sheet).line refusal) | None ↦ sheet_short sheet ]
 
   module _ (short : length sheet ≤ sheet_bytes) {run : Run} (e : run ≡ told (whole_ran sheet)) where
     is-told : run ≡ told (sheet_ran sheet)
@@ -278,20 +279,19 @@ module _ (sheet : List ℕ) where
 
     module _ (out : List ℕ) (at : ℕ) where
       pub clause_refused :
-          {n : ℕ} {between after : List ℕ} → 0 < run.refusal → between ≡ printed out at (whole_ran sheet).text
-          → n ≡ length (refusal_text run.line run.refusal)
-          → after ≡ printed between at (refusal_text run.line run.refusal)
+          {n : ℕ} {refusal : Refusal} {between after : List ℕ} → run.refusal ≡ Some refusal → between ≡ printed out at (whole_ran sheet).text
+          → n ≡ length (refusal_text run.line refusal)
+          → after ≡ printed between at (refusal_text run.line refusal)
           → (n ≡ length (ran_text (sheet_ran sheet))) × Fronts out at (ran_text (sheet_ran sheet)) after
-      clause_refused bad first counted put =
-          let refusal = ap (λ r. r.refusal) is-told in
-          let text = ap₂ refusal_text (ap (λ r. r.line) is-told) refusal ∙ sym (text-refused (omega (arith, refusal))) in
+      clause_refused {refusal = refusal} bad first counted put =
+          let text = ap (λ line. refusal_text line refusal) (ap (λ r. r.line) is-told) ∙ sym (text-refused (sym (ap (λ r. r.refusal) is-told) ∙ bad)) in
           (counted ∙ ap length text, fronts_over out at _ _ first (put ∙ ap (printed _ at) text))
 
       pub clause_printed :
-          {after : List ℕ} → run.refusal ≤ 0 → after ≡ printed out at (whole_ran sheet).text
+          {after : List ℕ} → run.refusal ≡ accepted → after ≡ printed out at (whole_ran sheet).text
           → (run.length ≡ length (ran_text (sheet_ran sheet))) × Fronts out at (ran_text (sheet_ran sheet)) after
       clause_printed good put =
-          let text = text-accepted (omega (arith, ap (λ r. r.refusal) is-told)) in (
+          let text = text-accepted (sym (ap (λ r. r.refusal) is-told) ∙ good) in (
             ap (λ r. r.length) is-told ∙ ap length (sym text),
             fronts_printed out at _ (put ∙ ap (λ r. printed out at r.text) (whole_within sheet short) ∙ ap (printed out at) (sym text)),
           )
@@ -381,10 +381,10 @@ module _ {whole : List (List ℕ)} {empty rest : List ℕ} {count : ℕ} {out : 
       pub going-refused :
           {out' : List ℕ} → same line clause_word ≡ false
           → (record { line = 0; refusal = refused_form; length = 0 } ≡ told (clauses_ran whole))
-          × (refused_form ≤ 0 → Fronts empty 0 (clauses_ran whole).text out')
+          × (refused_form ≡ accepted → Fronts empty 0 (clauses_ran whole).text out')
       going-refused other =
           let more = sym g.more ∙ ap has_more b.is ∙ more_here b.line b.others b.clause (ap (λ l. same l clause_word) (sym its_line) ∙ other) in
-          (ap told (sym (ran-refused more)), λ h. absurd (omega arith))
+          (ap told (sym (ran-refused more)), λ h. cc)
 
       module _
           {behind lines next : List ℕ} {size : ℕ}
@@ -459,7 +459,7 @@ module _ {whole : List (List ℕ)} {empty rest : List ℕ} {count : ℕ} {out : 
   pub going-last :
       length rest ≤ 0
       → (record { line = 0; refusal = accepted; length = count } ≡ told (clauses_ran whole))
-      × (accepted ≤ 0 → Fronts empty 0 (clauses_ran whole).text out)
+      × (accepted ≡ accepted → Fronts empty 0 (clauses_ran whole).text out)
   unfolding has_more clauses clause_texts
   going-last h =
       let none = done g.lines g.left h in

@@ -18,10 +18,12 @@ ghost use Rattle.bundles.specs.Bundles.{
   answered,
   filled,
 };
+ghost use Rattle.refusals.specs.Refusals.{accepted};
 ghost use Rattle.bundles.specs.Running.{refusal_before, clauses_ran, Fronts};
 
-use answered::Answered;
+use answered::{Answered, Refused};
 use event_sheets::Run;
+use refusals::Refusal;
 use sizes::SHEET_BYTES;
 use split::{LINE_FEED, TAB};
 
@@ -43,6 +45,7 @@ fn end_of_clause(rest: &[u8]) -> usize
     let mut bytes = 0;
     let mut left = rest;
     let mut end = split::end_of(left, LINE_FEED);
+    // What is left behind a line is handed on as a part that starts in the middle.
     while end < left.len() {
         if is_clause(split::part_before(left, end)) {
             return bytes;
@@ -56,7 +59,7 @@ fn end_of_clause(rest: &[u8]) -> usize
 }
 
 // Puts the line of a refusal at a place; its length, which counts also where the room has ended.
-fn add_refusal(out: &mut [u8], at: usize, line: u32, refusal: u32) -> usize
+fn add_refusal(out: &mut [u8], at: usize, line: u32, refusal: Refusal) -> usize
     ensures value { result ≡ length (refusal_text line refusal) }
     ensures out_after { out.new ≡ printed out.old at (refusal_text line refusal) }
 {
@@ -74,10 +77,10 @@ fn add_clause(sheet: &[u8], out: &mut [u8], at: usize) -> usize
     ensures fronts { Fronts out.old at (ran_text (sheet_ran sheet.now)) out.new }
 {
     let run = event_sheets::run_sheet(sheet, out, at);
-    if 0 < run.refusal {
-        return add_refusal(out, at, run.line as u32, run.refusal);
+    match run.refusal {
+        Some(refusal) => add_refusal(out, at, run.line as u32, refusal),
+        None => run.length,
     }
-    run.length
 }
 
 // The clauses of a bundle that begins with one, each with a fresh state and its own line numbers. Their texts are put one
@@ -87,16 +90,17 @@ fn run_clauses(bundle: &[u8], out: &mut [u8]) -> Run
     requires ends_a_line { is_unended bundle.now ≡ false }
     requires begins_a_clause { is_stray (lines_of bundle.now) ≡ false }
     ensures value { result ≡ told (clauses_ran (lines_of bundle.now)) }
-    ensures fronts { result.refusal ≤ 0 → Fronts out.old 0 (clauses_ran (lines_of bundle.now)).text out.new }
+    ensures fronts { result.refusal ≡ accepted → Fronts out.old 0 (clauses_ran (lines_of bundle.now)).text out.new }
 {
     let mut length = 0;
     let mut rest = bundle;
+    // What is left behind a clause is handed on as a part that starts in the middle.
     while 0 < rest.len() {
         let end = split::end_of(rest, LINE_FEED);
         if !words::is(split::part_before(rest, end), b"clause") {
             return Run {
                 line: 0,
-                refusal: refusals::FORM,
+                refusal: Some(Refusal::Form),
                 length: 0,
             };
         }
@@ -108,29 +112,29 @@ fn run_clauses(bundle: &[u8], out: &mut [u8]) -> Run
     }
     Run {
         line: 0,
-        refusal: refusals::ACCEPTED,
+        refusal: None,
         length,
     }
 }
 
 // What refuses a bundle before its clauses are looked at: its length, a last line without LF, a line before the first `clause`.
-fn refusal_before(bundle: &[u8]) -> u32
+fn refusal_before(bundle: &[u8]) -> Option<Refusal>
     ensures { result ≡ refusal_before bundle.now }
 {
     if SHEET_BYTES < bundle.len() {
-        return refusals::FULL;
+        return Some(Refusal::Full);
     }
-    if bundle.len() < 1 {
-        return refusals::ACCEPTED;
+    match bundle {
+        [] => None,
+        [.., LINE_FEED] => {
+            let end = split::end_of(bundle, LINE_FEED);
+            if is_clause(split::part_before(bundle, end)) {
+                return None;
+            }
+            Some(Refusal::Order)
+        }
+        _ => Some(Refusal::Form),
     }
-    if bundle[bundle.len() - 1] != LINE_FEED {
-        return refusals::FORM;
-    }
-    let end = split::end_of(bundle, LINE_FEED);
-    if is_clause(split::part_before(bundle, end)) {
-        return refusals::ACCEPTED;
-    }
-    refusals::ORDER
 }
 
 // The answer to a bundle. The clauses are run aside, so that a refusal leaves the lent bytes as they were; an answer too long
@@ -139,23 +143,28 @@ pub fn answer(bundle: &[u8], out: &mut [u8]) -> Answered
     ensures value { result ≡ answered bundle.now (length out.old) }
     ensures out_after { out.new ≡ filled bundle.now out.old }
 {
-    let refusal = refusal_before(bundle);
-    if 0 < refusal {
-        return Answered::Refused(0, refusal);
+    if let Some(refusal) = refusal_before(bundle) {
+        return Err(Refused { line: 0, refusal });
     }
     let mut text = [0; SHEET_BYTES];
     let run = run_clauses(bundle, &mut text[..]);
-    if 0 < run.refusal {
-        return Answered::Refused(run.line, run.refusal);
+    if let Some(refusal) = run.refusal {
+        return Err(Refused {
+            line: run.line,
+            refusal,
+        });
     }
     let length = run.length;
     if out.len() < length {
-        return Answered::Refused(0, refusals::ROOM);
+        return Err(Refused {
+            line: 0,
+            refusal: Refusal::Room,
+        });
     }
     if length <= SHEET_BYTES {
         printing::put_word(out, 0, split::part_before(&text, length));
-        return Answered::Written(length);
+        return Ok(length);
     }
     run_clauses(bundle, &mut out[0..length]);
-    Answered::Written(length)
+    Ok(length)
 }

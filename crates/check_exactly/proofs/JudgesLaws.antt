@@ -1,12 +1,10 @@
 -- Rule 21.6: whatever meets the contract of `check_sheets::answer` judges a sheet that is read by its meaning.
-use Rattle.std.specs.Prelude.{ℕ, ◌≤◌, ◌≡◌, refl, Bool, true, false, ◌↔◌, List, ◌++◌, length, get_or}
+use Rattle.std.specs.Prelude.{ℕ, ◌≤◌, ◌≡◌, refl, Bool, true, false, ◌↔◌, List, ◌++◌, length, get_or, Ok}
 use Rattle.std.proofs.Common.{ap, sym, subst, ◌∙◌, true≢false, arith, le-ltb}
 use Rattle.std.proofs.lemmas.Bool.{false≢true}
 use mathlib.Core.Logic.Iff
 use Rattle.sizes.specs.Sizes.{sheet_bytes}
-use Rattle.answered.specs.declared.Answered.{Answered}
-use Rattle.answered.specs.declared.Answered.TheVariants.{Written}
-use Rattle.answered.specs.Answered.{filled_by}
+use Rattle.answered.specs.Answered.{Answered, filled_by}
 use Rattle.steps.specs.declared.CheckLine.{CheckLine}
 use Rattle.check_sheets.specs.CheckSheets.{reads, reading, accepted_text, rejected_text, word_of, roomed, answered_by, answered, filled, Tells, ByVerdict}
 use Rattle.check_exactly.specs.Exactly.{AllRead}
@@ -39,7 +37,7 @@ wide : (right : Bool) {room : ℕ} → length accepted_text ≤ room → length 
 wide true h = h
 wide false h = h
 
-wide-answered : (right : Bool) {room : ℕ} → length accepted_text ≤ room → roomed right room ≡ Written (length (word_of right))
+wide-answered : (right : Bool) {room : ℕ} → length accepted_text ≤ room → roomed right room ≡ Ok (length (word_of right))
 unfolding roomed
 wide-answered right {room} h = simp (le-ltb room (length (word_of right)) (wide right h))
 

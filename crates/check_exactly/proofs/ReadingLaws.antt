@@ -1,17 +1,18 @@
 -- Rule 4.11 of check sheets: a sheet's reading is a refusal, or its lines, exactly when its lines say so.
-use Rattle.std.specs.Prelude.{ℕ, suc, ◌≡◌, refl, true, false, ◌↔◌, length}
+use Rattle.std.specs.Prelude.{ℕ, suc, ◌≡◌, refl, true, false, ◌↔◌, length, Some, None}
 use Rattle.std.proofs.Math.Path.{ap}
 use Rattle.std.proofs.Common.{ap₂, sym, subst, ◌∙◌, inl, inr, ⊎_elim, arith, lt-ltb}
 use mathlib.Core.List.{List, [], ◌∷◌, reverse, reverse_aux}
-use Rattle.refusals.specs.Refusals.{accepted, refused_form, refused_order}
+use Rattle.refusals.specs.declared.Refusal.{Refusal}
+use Rattle.refusals.specs.declared.Refusal.TheVariants.{Form, Order}
+use Rattle.refusals.specs.Refusals.{accepted}
 use Rattle.split.specs.Split.{line_feed}
 use Rattle.split.specs.SplitLaws.{split-some}
 use Rattle.steps.specs.declared.CheckLine.{CheckLine}
 use Rattle.steps.specs.Steps.{steps_of, is_uncalled, refusal_of}
-use Rattle.check_lines.specs.declared.Line.{Line}
-use Rattle.check_lines.specs.declared.Line.TheVariants.{Malformed, Says}
+use Rattle.check_lines.specs.Behind.{Line}
 use Rattle.check_lines.specs.CheckLines.{line_says}
-use Rattle.classes.specs.Cases.{true_or_false, less_or_not}
+use Rattle.classes.specs.Cases.{true_or_false}
 use Rattle.check_sheets.specs.CheckSheets.{Reading, bad, reads, with_line, last_read, line_read, read_from, reading}
 use Rattle.check_exactly.specs.Exactly.{ReadSoFar, none, more, Behind, LineThat, Unended, Ended, LineAt, UnendedAt, UncalledAt, RefusedBy, FirstBad, AllRead}
 
@@ -31,7 +32,7 @@ with_more line earlier (reads lines) = refl
 
 line-accepted :
     (earlier : List CheckLine) (number : ℕ) {said : Line} {line : CheckLine} (others : List CheckLine → Reading)
-    → said ≡ Says line → refusal_of earlier line ≡ accepted
+    → said ≡ Some line → refusal_of earlier line ≡ accepted
     → line_read earlier number said others ≡ with_line line (others (line ∷ earlier))
 line-accepted earlier number others says good = simp (says, good)
 
@@ -48,15 +49,15 @@ read_behind (more {count} {earlier} {text} {next} {parts} {line} read says good)
 -- ---- What stands behind them decides
 
 line_refused :
-    (earlier : List CheckLine) (number refusal : ℕ) (said : Line) (others : List CheckLine → Reading) → RefusedBy refusal earlier said
+    (earlier : List CheckLine) (number : ℕ) (refusal : Refusal) (said : Line) (others : List CheckLine → Reading) → RefusedBy refusal earlier said
     → line_read earlier number said others ≡ bad number refusal
-line_refused earlier number refusal Malformed others form = ap (bad number) (sym form)
-line_refused earlier number refusal (Says line) others given =
-    simp (lt-ltb 0 (refusal_of earlier line) (omega (arith, given.0, given.1))) (ap (bad number) (sym given.1))
+line_refused earlier number refusal None others form = ap (bad number) (sym form)
+line_refused earlier number refusal (Some line) others given =
+    rw (sym given) refl
 
 module _ {sheet : List ℕ} {count : ℕ} {earlier : List CheckLine} where
   line_decides :
-      {refusal : ℕ} (rest : List (List ℕ)) → ReadSoFar sheet count earlier rest → LineThat (RefusedBy refusal earlier) rest
+      {refusal : Refusal} (rest : List (List ℕ)) → ReadSoFar sheet count earlier rest → LineThat (RefusedBy refusal earlier) rest
       → reading sheet ≡ bad (suc count) refusal
   unfolding read_from
   line_decides [] read holds = absurd holds
@@ -64,7 +65,7 @@ module _ {sheet : List ℕ} {count : ℕ} {earlier : List CheckLine} where
   line_decides (text ∷ (next ∷ parts)) read holds =
       read_behind read ∙ ap (with_earlier earlier) (line_refused earlier (suc count) _ (line_says text) _ holds)
 
-  unended_decides : (rest : List (List ℕ)) → ReadSoFar sheet count earlier rest → Unended rest → reading sheet ≡ bad (suc count) refused_form
+  unended_decides : (rest : List (List ℕ)) → ReadSoFar sheet count earlier rest → Unended rest → reading sheet ≡ bad (suc count) Form
   unfolding read_from last_read
   unended_decides [] read some = absurd some
   unended_decides (left ∷ []) read some = read_behind read ∙ simp (lt-ltb 0 (length left) (omega arith))
@@ -75,9 +76,9 @@ module _ {sheet : List ℕ} {count : ℕ} {earlier : List CheckLine} where
     unfolding read_from
     end_reached = read_behind read ∙ ap (λ parts. with_earlier earlier (read_from earlier (suc count) parts)) ended
 
-    uncalled_decides : is_uncalled (steps_of earlier) ≡ true → reading sheet ≡ bad count refused_order
+    uncalled_decides : is_uncalled (steps_of earlier) ≡ true → reading sheet ≡ bad count Order
     unfolding last_read
-    uncalled_decides uncalled = end_reached ∙ simp uncalled (ap (λ (n : ℕ). bad n refused_order) (omega arith))
+    uncalled_decides uncalled = end_reached ∙ simp uncalled (ap (λ (n : ℕ). bad n Order) (omega arith))
 
     called_decides : is_uncalled (steps_of earlier) ≡ false → reading sheet ≡ reads (reverse earlier)
     unfolding last_read
@@ -89,14 +90,14 @@ abbrev LinesTell : List ℕ → Reading → Type 0
 LinesTell sheet (bad number refusal) = FirstBad sheet number refusal
 LinesTell sheet (reads lines) = AllRead sheet lines
 
-module _ {sheet : List ℕ} {number refusal : ℕ} where
+module _ {sheet : List ℕ} {number : ℕ} {refusal : Refusal} where
   line_given : LineAt sheet number (RefusedBy refusal) → reading sheet ≡ bad number refusal
   line_given at = line_decides at.rest at.read at.holds.1 ∙ ap (λ (n : ℕ). bad n refusal) (sym at.holds.0)
 
-  unended_given : (refusal ≡ refused_form) × UnendedAt sheet number → reading sheet ≡ bad number refusal
+  unended_given : (refusal ≡ Form) × UnendedAt sheet number → reading sheet ≡ bad number refusal
   unended_given (form, at) = unended_decides at.rest at.read at.holds.1 ∙ ap₂ bad (sym at.holds.0) (sym form)
 
-  uncalled_given : (refusal ≡ refused_order) × UncalledAt sheet number → reading sheet ≡ bad number refusal
+  uncalled_given : (refusal ≡ Order) × UncalledAt sheet number → reading sheet ≡ bad number refusal
   uncalled_given (order, at) = uncalled_decides at.read at.holds.1 at.holds.2 ∙ ap₂ bad (sym at.holds.0) (sym order)
 
 is_read : (sheet : List ℕ) (r : Reading) → LinesTell sheet r → reading sheet ≡ r
@@ -116,19 +117,20 @@ module _ {sheet : List ℕ} {count : ℕ} {earlier : List CheckLine} where
   line-told :
       {text next : List ℕ} {parts : List (List ℕ)} → ReadSoFar sheet count earlier (text ∷ (next ∷ parts))
       → (said : Line) → line_says text ≡ said
-      → ((line : CheckLine) → line_says text ≡ Says line → refusal_of earlier line ≡ accepted → ToldByLines sheet)
+      → ((line : CheckLine) → line_says text ≡ Some line → refusal_of earlier line ≡ accepted → ToldByLines sheet)
       → ToldByLines sheet
-  line-told read Malformed says others = (bad _ refused_form, inl (here read (refl, rw says refl)))
-  line-told read (Says line) says others =
-      ⊎_elim
-      (λ refused. (bad _ (refusal_of earlier line), inl (here read (refl, rw says (refused, refl)))))
-      (λ good. others line says (omega arith))
-      (less_or_not 0 (refusal_of earlier line))
+  line-told read None says others = (bad _ Form, inl (here read (refl, rw says refl)))
+  line-told read (Some line) says others =
+      elim (refusal_of earlier line) as (λ r. refusal_of earlier line ≡ r → ToldByLines sheet) [
+        | Some refusal ↦ λ refused. (bad _ refusal, inl (here read (refl, rw says (sym refused))))
+        | None ↦ λ good. others line says good
+      ]
+      refl
 
   end-told : ReadSoFar sheet count earlier ([] ∷ []) → ToldByLines sheet
   end-told read =
       ⊎_elim
-      (λ uncalled. (bad _ refused_order, inr (inr (refl, here read (refl, refl, uncalled)))))
+      (λ uncalled. (bad _ Order, inr (inr (refl, here read (refl, refl, uncalled)))))
       (λ called. (reads _, here read (refl, refl, called)))
       (true_or_false (is_uncalled (steps_of earlier)))
 
@@ -137,7 +139,7 @@ told-from :
     → ReadSoFar sheet count earlier (next ∷ parts)
     → ToldByLines sheet
 told-from [] [] read = end-told read
-told-from (byte ∷ left) [] read = (bad _ refused_form, inr (inl (refl, here read (refl, omega arith))))
+told-from (byte ∷ left) [] read = (bad _ Form, inr (inl (refl, here read (refl, omega arith))))
 told-from text (next ∷ parts) read =
     line-told read (line_says text) refl (λ line says good. told-from next parts (more read says good))
 
@@ -149,7 +151,7 @@ module _ (sheet : List ℕ) where
   reading_exactly r = (λ e. subst (LinesTell sheet) (sym (is_read sheet told.0 told.1) ∙ e) told.1, is_read sheet r)
 
   -- rule 4.11
-  pub bad_exactly : (number refusal : ℕ) → (reading sheet ≡ bad number refusal) ↔ FirstBad sheet number refusal
+  pub bad_exactly : (number : ℕ) (refusal : Refusal) → (reading sheet ≡ bad number refusal) ↔ FirstBad sheet number refusal
   bad_exactly number refusal = reading_exactly (bad number refusal)
 
   pub reads_exactly : (lines : List CheckLine) → (reading sheet ≡ reads lines) ↔ AllRead sheet lines

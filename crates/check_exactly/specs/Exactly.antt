@@ -1,14 +1,14 @@
 -- When a check sheet is read and when it is refused, in words of its lines alone: rules 4.11, 4.14, 19.9.
 -- Lines that stand before are listed with the last one first.
-use Rattle.std.specs.Prelude.{ℕ, suc, ◌≤◌, ◌<◌, ◌≡◌, true, false, ◌⊎◌, List, [], ◌∷◌, reverse, length}
-use Rattle.refusals.specs.Refusals.{accepted, refused_form, refused_order, refused_size, refused_full, refused_room}
+use Rattle.std.specs.Prelude.{ℕ, suc, ◌<◌, ◌≡◌, true, false, ◌⊎◌, List, [], ◌∷◌, reverse, length, Ok, Err, Some, None}
+use Rattle.refusals.specs.declared.Refusal.{Refusal}
+use Rattle.refusals.specs.declared.Refusal.TheVariants.{Form, Order, Size, Full, Room}
+use Rattle.refusals.specs.Refusals.{accepted}
 use Rattle.split.specs.Split.{line_feed, split}
-use Rattle.answered.specs.declared.Answered.{Answered}
-use Rattle.answered.specs.declared.Answered.TheVariants.{Written, Refused}
+use Rattle.answered.specs.Answered.{Answered}
 use Rattle.steps.specs.declared.CheckLine.{CheckLine}
 use Rattle.steps.specs.Steps.{steps_of, is_out_of_order, is_uncalled, fits, is_full, refusal_of}
-use Rattle.check_lines.specs.declared.Line.{Line}
-use Rattle.check_lines.specs.declared.Line.TheVariants.{Malformed, Says}
+use Rattle.check_lines.specs.Behind.{Line}
 use Rattle.check_lines.specs.CheckLines.{line_says}
 
 -- ---- The lines that are read
@@ -20,7 +20,7 @@ pub data ReadSoFar (sheet : List ℕ) : ℕ → List CheckLine → List (List �
   more :
       {count : ℕ} {earlier : List CheckLine} {text next : List ℕ} {parts : List (List ℕ)} {line : CheckLine}
       → ReadSoFar sheet count earlier (text ∷ (next ∷ parts))
-      → line_says text ≡ Says line
+      → line_says text ≡ Some line
       → refusal_of earlier line ≡ accepted
       → ReadSoFar sheet (suc count) (line ∷ earlier) (next ∷ parts)
 
@@ -64,16 +64,16 @@ UncalledAt sheet number = Behind sheet (λ count earlier rest. (number ≡ count
 
 -- ---- The first bad line, or all lines
 
--- 1, or the number that the lines before it give it
-abbrev pub RefusedBy : ℕ → List CheckLine → Line → Type 0
-RefusedBy refusal earlier Malformed = refusal ≡ refused_form
-RefusedBy refusal earlier (Says line) = (1 ≤ refusal) × (refusal ≡ refusal_of earlier line)
+-- 1, or what the lines before it give it
+abbrev pub RefusedBy : Refusal → List CheckLine → Line → Type 0
+RefusedBy refusal earlier None = refusal ≡ Form
+RefusedBy refusal earlier (Some line) = Some refusal ≡ refusal_of earlier line
 
-abbrev pub FirstBad : List ℕ → ℕ → ℕ → Type 0
+abbrev pub FirstBad : List ℕ → ℕ → Refusal → Type 0
 FirstBad sheet number refusal =
     LineAt sheet number (RefusedBy refusal)
-    ⊎ ((refusal ≡ refused_form) × UnendedAt sheet number)
-    ⊎ ((refusal ≡ refused_order) × UncalledAt sheet number)
+    ⊎ ((refusal ≡ Form) × UnendedAt sheet number)
+    ⊎ ((refusal ≡ Order) × UncalledAt sheet number)
 
 -- `lines` are in the sheet's order, and no `call` is missing
 abbrev pub AllRead : List ℕ → List CheckLine → Type 0
@@ -86,8 +86,8 @@ IsRead sheet = (lines : List CheckLine) × AllRead sheet lines
 -- ---- What a line that says something is refused for: 2, 3, then 7 (rule 4.12)
 
 abbrev pub SaysThat : (List CheckLine → CheckLine → Type 0) → List CheckLine → Line → Type 0
-SaysThat Holds earlier Malformed = ⊥
-SaysThat Holds earlier (Says line) = Holds earlier line
+SaysThat Holds earlier None = ⊥
+SaysThat Holds earlier (Some line) = Holds earlier line
 
 abbrev pub OutOfOrder : List CheckLine → CheckLine → Type 0
 OutOfOrder earlier line = is_out_of_order earlier line ≡ true
@@ -100,9 +100,9 @@ TooMany earlier line = (is_out_of_order earlier line ≡ false) × (fits line �
 
 -- ---- What is ever given: 1, 2, 3 and 7, and 9 to a sheet as a whole
 
-abbrev pub GivenToLines : ℕ → Type 0
-GivenToLines refusal = (1 ≤ refusal) × ((refusal ≤ refused_size) ⊎ (refusal ≡ refused_full))
+abbrev pub GivenToLines : Refusal → Type 0
+GivenToLines refusal = (refusal ≡ Form) ⊎ (refusal ≡ Order) ⊎ (refusal ≡ Size) ⊎ (refusal ≡ Full)
 
 abbrev pub GivenBy : Answered → Type 0
-GivenBy (Written count) = Unit {0}
-GivenBy (Refused line refusal) = GivenToLines refusal ⊎ ((line ≡ 0) × (refusal ≡ refused_room))
+GivenBy (Ok count) = Unit {0}
+GivenBy (Err told) = GivenToLines told.refusal ⊎ ((told.line ≡ 0) × (told.refusal ≡ Room))

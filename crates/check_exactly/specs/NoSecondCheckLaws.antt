@@ -4,10 +4,9 @@ use Rattle.std.proofs.Common.{sym, subst}
 use Rattle.notation.specs.EquationLaws.{no_second, no_second_part}
 use Rattle.printing.specs.Printing.{Put}
 use Rattle.printing.specs.PrintingLaws.{put_unique}
-use Rattle.symbolic.specs.declared.Counts.{Counts}
-use Rattle.symbolic.specs.declared.Taken.{Taken}
-use Rattle.symbolic.specs.Symbolic.{Symbols, Taking}
-use Rattle.symbolic.specs.Tables.{taking_of}
+use Rattle.steps.specs.declared.Judged.{Judged}
+use Rattle.symbolic.specs.declared.Symbols.{Symbols}
+use Rattle.symbolic.specs.Symbolic.{Taking, taking_of}
 use Rattle.check_sheets.specs.CheckSheets.{reading, ByVerdict}
 use Rattle.check_sheets.specs.TellsLaws.{tells_once}
 
@@ -48,38 +47,13 @@ reply_settled first second =
     let both = (by-verdict-both first second).holds in
     put_unique both.0 both.1
 
--- ---- Eight tables, result
+-- ---- The run on names, result
 
 -- `symbolic`: take_line
 pub taking_of_unique :
-    {places places' demands demands' made made' values values' wants wants' due due' goal goal' claims claims' : List ℕ}
-    {r r' : Taken} {meaning : Taking}
-    → taking_of places demands made values wants due goal claims r ≡ meaning
-    → taking_of places' demands' made' values' wants' due' goal' claims' r' ≡ meaning
-    → (places ≡ places') × (demands ≡ demands') × (made ≡ made') × (values ≡ values') × (wants ≡ wants') × (due ≡ due')
-    × (goal ≡ goal') × (claims ≡ claims') × (r ≡ r')
-taking_of_unique x y = (
-  no_second_part (λ (t : Taking). t.symbols.doing.places) x y,
-  no_second_part (λ (t : Taking). t.symbols.doing.demands.cells) x y,
-  no_second_part (λ (t : Taking). t.symbols.doing.made.cells) x y,
-  no_second_part (λ (t : Taking). t.symbols.wanting.values) x y,
-  no_second_part (λ (t : Taking). t.symbols.wanting.wants.cells) x y,
-  no_second_part (λ (t : Taking). t.symbols.wanting.due.cells) x y,
-  no_second_part (λ (t : Taking). t.symbols.wanting.goal.cells) x y,
-  no_second_part (λ (t : Taking). t.symbols.claims.cells) x y,
-  no_second_part taken_of x y,
-)
+    {symbols symbols' : Symbols} {r r' : Judged} {meaning : Taking}
+    → taking_of symbols r ≡ meaning → taking_of symbols' r' ≡ meaning → (symbols ≡ symbols') × (r ≡ r')
+taking_of_unique x y = (no_second_part (λ (t : Taking). t.symbols) x y, no_second_part judged_of x y)
   where
-    counts_of : Symbols → Counts
-    counts_of s =
-        record {
-          demands = s.doing.demands.count;
-          made = s.doing.made.count;
-          wants = s.wanting.wants.count;
-          due = s.wanting.due.count;
-          goal = s.wanting.goal.count;
-          claims = s.claims.count;
-        }
-
-    taken_of : Taking → Taken
-    taken_of t = record { order = t.order; counts = counts_of t.symbols; refusal = t.refusal }
+    judged_of : Taking → Judged
+    judged_of t = record { order = t.order; refusal = t.refusal }

@@ -1,5 +1,5 @@
 -- Laws of reading, a field at a time.
-use Rattle.std.specs.Prelude.{ℕ, ◌-◌, ◌<◌, ◌≡◌, List, take, drop}
+use Rattle.std.specs.Prelude.{ℕ, ◌-◌, ◌<◌, ◌≡◌, List, take, drop, None}
 use Rattle.std.proofs.Common.{sym, arith}
 use Rattle.std.proofs.Math.ListN.{length, length-drop}
 use Rattle.split.specs.Split.{tab, before}
@@ -7,7 +7,6 @@ use Rattle.split.specs.SplitLaws.{take-before}
 use Rattle.numbers.specs.Numbers.{number_of}
 use Rattle.fields.specs.Fields.{field_end, fields_left}
 use Rattle.fields.specs.FieldsLaws.{left_none, left_some, left_last, end_within, line_fields}
-use Rattle.check_lines.specs.declared.Line.TheVariants.{Malformed}
 use Rattle.check_lines.specs.CheckLines.{fields_say, line_says}
 use Rattle.check_lines.specs.Reading.{word_code, field_of, no_field, one_field, two_fields, said_by}
 use Rattle.check_lines.proofs.ReadingLaws.{by-none, word_said}
@@ -36,6 +35,10 @@ module _ (code : ℕ) (rest : List ℕ) where
   unfolding said_by
   said_none h = rw (left_none tab rest h)
 
+  pub said_malformed : 0 < length rest → field_of (next rest) ≡ None → said_by code (fields_left tab rest) ≡ None
+  unfolding said_by
+  said_malformed some e = rw (left_some tab rest some, e)
+
   pub said_one : NextIsLast rest → said_by code (fields_left tab rest) ≡ one_field code (field_of (next rest))
   unfolding said_by
   said_one h = rw (left_last tab rest h)
@@ -50,7 +53,7 @@ module _ (code : ℕ) (rest : List ℕ) where
 
   pub said_more :
       (length rest ≡ 0 → ⊥) → (NextIsLast rest → ⊥) → (NextIsLast (behind rest) → ⊥)
-      → said_by code (fields_left tab rest) ≡ Malformed
+      → said_by code (fields_left tab rest) ≡ None
   unfolding said_by
   said_more some h k =
       let second = another rest (omega arith) h in

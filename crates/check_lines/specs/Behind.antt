@@ -1,10 +1,8 @@
 -- What can stand behind the word of a line, field after field: rules 2.2, 2.3, 2.4, 4.1, 16.3, 19.1, 19.2.
-use Rattle.std.specs.Prelude.{ℕ, List, [], ◌∷◌, take, drop}
+use Rattle.std.specs.Prelude.{ℕ, List, [], ◌∷◌, take, drop, Option, Some, None}
 use Rattle.std.specs.Prelude.{if◌then◌else◌}
 use Rattle.notation.specs.Text.{bytes}
 use Rattle.words.specs.Words.{same}
-use Rattle.numbers.specs.declared.Number.{Number}
-use Rattle.numbers.specs.declared.Number.TheVariants.{Of, Malformed as no_number}
 use Rattle.numbers.specs.Numbers.{number_of}
 use Rattle.registers.specs.declared.RegType.{RegType}
 use Rattle.registers.specs.declared.RegType.TheVariants.{Temp, Perm}
@@ -12,10 +10,12 @@ use Rattle.instructions.specs.declared.Instruction.{Instruction}
 use Rattle.steps.specs.declared.Step.{Step}
 use Rattle.steps.specs.declared.CheckLine.{CheckLine}
 use Rattle.steps.specs.declared.CheckLine.TheVariants.{Begins, Does}
-use Rattle.check_lines.specs.declared.Line.{Line}
-use Rattle.check_lines.specs.declared.Line.TheVariants.{Malformed, Says}
 
--- what a line says, by the fields behind its word
+-- what a line says, where it has a form
+abbrev pub Line : Type 0
+Line = Option CheckLine
+
+-- by the fields behind its word
 abbrev pub Behind : Type 0
 Behind = List (List ℕ) → Line
 
@@ -23,30 +23,30 @@ Behind = List (List ℕ) → Line
 
 -- no field is left
 unfoldable pub no_more : CheckLine → Behind
-no_more line [] = Says line
-no_more line (field ∷ fields) = Malformed
+no_more line [] = Some line
+no_more line (field ∷ fields) = None
 
 -- rule 2.3: the number that a field holds
-abbrev pub held : Number → (ℕ → Line) → Line
-held (Of n) more = more n
-held no_number more = Malformed
+abbrev pub held : Option ℕ → (ℕ → Line) → Line
+held (Some n) more = more n
+held None more = None
 
 unfoldable pub a_number : (ℕ → Behind) → Behind
-a_number more [] = Malformed
+a_number more [] = None
 a_number more (field ∷ fields) = held (number_of field) (λ n. more n fields)
 
 -- a register, `x` with a number, or a slot, `y` with a number
 unfoldable pub a_place : (RegType → Behind) → Behind
-a_place more [] = Malformed
+a_place more [] = None
 a_place more (field ∷ fields) =
     if same (take 1 field) (bytes "x")
     then held (number_of (drop 1 field)) (λ r. more (Temp r) fields)
-    else if same (take 1 field) (bytes "y") then held (number_of (drop 1 field)) (λ r. more (Perm r) fields) else Malformed
+    else if same (take 1 field) (bytes "y") then held (number_of (drop 1 field)) (λ r. more (Perm r) fields) else None
 
 -- rule 19.2: an unsafe value comes from a slot only
 abbrev pub slot_only : (ℕ → Behind) → RegType → Behind
 slot_only more (Perm slot) fields = more slot fields
-slot_only more (Temp r) fields = Malformed
+slot_only more (Temp r) fields = None
 
 -- ---- All fields behind a word
 

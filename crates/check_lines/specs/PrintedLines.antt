@@ -1,5 +1,5 @@
 -- Rule 19.2: an instruction's printed line, without its LF, reads back as the instruction.
-use Rattle.std.specs.Prelude.{ℕ, zero, suc, ◌/◌, ◌%◌, ◌≤◌, ◌≡◌, refl, true, false, not, eqb, ltb}
+use Rattle.std.specs.Prelude.{ℕ, zero, suc, ◌/◌, ◌%◌, ◌≤◌, ◌≡◌, refl, true, false, not, eqb, ltb, Some}
 use Rattle.std.proofs.Common.{◌∙◌, arith, ne_eqb}
 use mathlib.Core.List.{List, [], ◌∷◌, ◌++◌}
 use Rattle.std.specs.Prelude.{if◌then◌else◌}
@@ -20,7 +20,6 @@ use Rattle.instructions.specs.Instructions.{line, instruction_text}
 use Rattle.instructions.specs.Codes.{code_of, word_of, fields_of}
 use Rattle.instructions.specs.InstructionsLaws.{text-by-number}
 use Rattle.steps.specs.declared.CheckLine.TheVariants.{Does}
-use Rattle.check_lines.specs.declared.Line.TheVariants.{Says}
 use Rattle.check_lines.specs.Behind.{Behind, no_more, a_number, a_place, slot_only, place_alone, place_and_argument, slot_and_argument}
 use Rattle.check_lines.specs.Words.{line_words}
 use Rattle.check_lines.specs.CheckLines.{said_among, fields_say, line_says}
@@ -90,13 +89,13 @@ number_read n h more fields = rw (printed-is-read n h)
 module _ (place : RegType) (h : in_place place ≤ largest_number) where
   place_said :
       (instruction : RegType → Instruction)
-      → place_alone instruction (register_text place ∷ []) ≡ Says (Does (instruction place))
+      → place_alone instruction (register_text place ∷ []) ≡ Some (Does (instruction place))
   unfolding no_more
   place_said instruction = place_read place h (λ p. no_more (Does (instruction p))) []
 
   argument_said :
       (instruction : RegType → ℕ → Instruction) (k : ℕ) → k ≤ largest_number
-      → place_and_argument instruction (register_text place ∷ decimal k ∷ []) ≡ Says (Does (instruction place k))
+      → place_and_argument instruction (register_text place ∷ decimal k ∷ []) ≡ Some (Does (instruction place k))
   unfolding no_more
   argument_said instruction k m =
       place_read place h (λ p. a_number (λ n. no_more (Does (instruction p n)))) (decimal k ∷ [])
@@ -104,7 +103,7 @@ module _ (place : RegType) (h : in_place place ≤ largest_number) where
 
 slot_said :
     (instruction : ℕ → ℕ → Instruction) (slot : ℕ) → slot ≤ largest_number → (k : ℕ) → k ≤ largest_number
-    → slot_and_argument instruction (register_text (Perm slot) ∷ decimal k ∷ []) ≡ Says (Does (instruction slot k))
+    → slot_and_argument instruction (register_text (Perm slot) ∷ decimal k ∷ []) ≡ Some (Does (instruction slot k))
 unfolding no_more
 slot_said instruction slot h k m =
     place_read (Perm slot) h (slot_only (λ s. a_number (λ n. no_more (Does (instruction s n))))) (decimal k ∷ [])
@@ -127,7 +126,7 @@ module _ (word : List ℕ) (place : RegType) (clear : free tab word ≡ true) wh
 -- what is printed says the instruction
 pub instruction_read :
     (instruction : Instruction) → in_place (code_of instruction).place ≤ largest_number → (code_of instruction).argument ≤ largest_number
-    → line_says (printed_line instruction) ≡ Says (Does instruction)
+    → line_says (printed_line instruction) ≡ Some (Does instruction)
 unfolding fields_of word_of said_among same free
 instruction_read (GetVariable place k) h m = three_said (bytes "get_variable") place refl k ∙ argument_said place h GetVariable k m
 instruction_read (GetValue place k) h m = three_said (bytes "get_value") place refl k ∙ argument_said place h GetValue k m

@@ -11,9 +11,6 @@ ghost use Rattle.check_lines.specs.Reading.{
   word_code,
   instruction_words,
   place_words,
-  by_itself,
-  in_register,
-  in_slot,
   field_of,
   no_field,
   deep_step,
@@ -27,30 +24,22 @@ ghost use Rattle.check_lines.specs.Reading.{
 };
 
 use instructions::Instruction;
-use numbers::Number;
 use registers::RegType;
 use split::TAB;
 use steps::{CheckLine, Step};
-
-// What a line says.
-#[derive(Clone, Copy)]
-pub enum Line {
-    Malformed,
-    Says(CheckLine),
-}
 
 // What a field behind the word says.
 #[derive(Clone, Copy)]
 enum Field {
     Number(u32),
     Place(RegType),
-    Malformed,
 }
 
 // ---- Words
 
 // The number of a line's word, its place in the table: 1 stands alone, 2 and 3 have one number behind them, 4 and 5 two, 6 to
 // 10 a place and an argument, and 11 to 16 a place; 0 is none of them.
+// A number, so that ranges of a `match` say how a line goes on. Word after word: the proof of a `match` on bytes does not close.
 fn word_code(word: &[u8]) -> u32
     ensures { result ≡ word_code word.now }
 {
@@ -121,173 +110,135 @@ fn place_word_code(word: &[u8]) -> u32
 
 // ---- Fields
 
-// A number by itself.
-fn by_itself(number: Number) -> Field
-    ensures { result ≡ by_itself number }
-{
-    match number {
-        Number::Of(n) => Field::Number(n),
-        Number::Malformed => Field::Malformed,
-    }
-}
-
-// A register.
-fn in_register(number: Number) -> Field
-    ensures { result ≡ in_register number }
-{
-    match number {
-        Number::Of(n) => Field::Place(RegType::Temp(n)),
-        Number::Malformed => Field::Malformed,
-    }
-}
-
-// A slot.
-fn in_slot(number: Number) -> Field
-    ensures { result ≡ in_slot number }
-{
-    match number {
-        Number::Of(n) => Field::Place(RegType::Perm(n)),
-        Number::Malformed => Field::Malformed,
-    }
-}
-
 // The field: a number, or a place, `x` or `y` with a number.
-fn field_of(field: &[u8]) -> Field
+fn field_of(field: &[u8]) -> Option<Field>
     ensures { result ≡ field_of field.now }
 {
-    let letter = split::part_before(field, 1);
-    let behind = split::part_after(field, 0);
-    if words::is(letter, b"x") {
-        return in_register(numbers::read(behind));
+    match field {
+        [b'x', behind @ ..] => numbers::read(behind).map(|r| Field::Place(RegType::Temp(r))),
+        [b'y', behind @ ..] => numbers::read(behind).map(|slot| Field::Place(RegType::Perm(slot))),
+        _ => numbers::read(field).map(Field::Number),
     }
-    if words::is(letter, b"y") {
-        return in_slot(numbers::read(behind));
-    }
-    by_itself(numbers::read(field))
 }
 
 // ---- Lines by the word's number: a number that a function does not name has no line of its form
 
 // No field: `call`.
-fn no_field(code: u32) -> Line
+fn no_field(code: u32) -> Option<CheckLine>
     ensures { result ≡ no_field code }
 {
     match code {
-        1 => Line::Says(CheckLine::Begins(Step::Call)),
-        _ => Line::Malformed,
+        1 => Some(CheckLine::Begins(Step::Call)),
+        _ => None,
     }
 }
 
 // A variable: the step of a deep subterm.
-fn deep_step(code: u32, v: u32) -> Line
+fn deep_step(code: u32, v: u32) -> Option<CheckLine>
     ensures { result ≡ deep_step code v }
 {
     match code {
-        2 => Line::Says(CheckLine::Begins(Step::HeadDeep(v))),
-        3 => Line::Says(CheckLine::Begins(Step::GoalDeep(v))),
-        _ => Line::Malformed,
+        2 => Some(CheckLine::Begins(Step::HeadDeep(v))),
+        3 => Some(CheckLine::Begins(Step::GoalDeep(v))),
+        _ => None,
     }
 }
 
 // An argument and a variable: the step of an argument.
-fn argument_step(code: u32, k: u32, v: u32) -> Line
+fn argument_step(code: u32, k: u32, v: u32) -> Option<CheckLine>
     ensures { result ≡ argument_step code k v }
 {
     match code {
-        4 => Line::Says(CheckLine::Begins(Step::Head(k, v))),
-        5 => Line::Says(CheckLine::Begins(Step::Goal(k, v))),
-        _ => Line::Malformed,
+        4 => Some(CheckLine::Begins(Step::Head(k, v))),
+        5 => Some(CheckLine::Begins(Step::Goal(k, v))),
+        _ => None,
     }
 }
 
 // The line of `put_unsafe_value`, which takes a slot only.
-fn unsafe_line(place: RegType, k: u32) -> Line
+fn unsafe_line(place: RegType, k: u32) -> Option<CheckLine>
     ensures { result ≡ unsafe_line place k }
 {
     match place {
-        RegType::Perm(slot) => { Line::Says(CheckLine::Does(Instruction::PutUnsafeValue(slot, k))) }
-        RegType::Temp(_) => Line::Malformed,
+        RegType::Perm(slot) => Some(CheckLine::Does(Instruction::PutUnsafeValue(slot, k))),
+        RegType::Temp(_) => None,
     }
 }
 
 // A place and an argument: the instruction that has both.
-fn argument_instruction(code: u32, place: RegType, k: u32) -> Line
+fn argument_instruction(code: u32, place: RegType, k: u32) -> Option<CheckLine>
     ensures { result ≡ argument_instruction code place k }
 {
     match code {
-        6 => Line::Says(CheckLine::Does(Instruction::GetVariable(place, k))),
-        7 => Line::Says(CheckLine::Does(Instruction::GetValue(place, k))),
-        8 => Line::Says(CheckLine::Does(Instruction::PutVariable(place, k))),
-        9 => Line::Says(CheckLine::Does(Instruction::PutValue(place, k))),
+        6 => Some(CheckLine::Does(Instruction::GetVariable(place, k))),
+        7 => Some(CheckLine::Does(Instruction::GetValue(place, k))),
+        8 => Some(CheckLine::Does(Instruction::PutVariable(place, k))),
+        9 => Some(CheckLine::Does(Instruction::PutValue(place, k))),
         10 => unsafe_line(place, k),
-        _ => Line::Malformed,
+        _ => None,
     }
 }
 
 // A place: the instruction that has nothing else.
-fn place_instruction(code: u32, place: RegType) -> Line
+fn place_instruction(code: u32, place: RegType) -> Option<CheckLine>
     ensures { result ≡ place_instruction code place }
 {
     match code {
-        11 => Line::Says(CheckLine::Does(Instruction::SetVariable(place))),
-        12 => Line::Says(CheckLine::Does(Instruction::SetValue(place))),
-        13 => Line::Says(CheckLine::Does(Instruction::SetLocalValue(place))),
-        14 => Line::Says(CheckLine::Does(Instruction::UnifyVariable(place))),
-        15 => Line::Says(CheckLine::Does(Instruction::UnifyValue(place))),
-        16 => Line::Says(CheckLine::Does(Instruction::UnifyLocalValue(place))),
-        _ => Line::Malformed,
+        11 => Some(CheckLine::Does(Instruction::SetVariable(place))),
+        12 => Some(CheckLine::Does(Instruction::SetValue(place))),
+        13 => Some(CheckLine::Does(Instruction::SetLocalValue(place))),
+        14 => Some(CheckLine::Does(Instruction::UnifyVariable(place))),
+        15 => Some(CheckLine::Does(Instruction::UnifyValue(place))),
+        16 => Some(CheckLine::Does(Instruction::UnifyLocalValue(place))),
+        _ => None,
     }
 }
 
 // ---- All lines
 
 // The line of a word with one field.
-fn one_field(code: u32, field: Field) -> Line
-    ensures { result ≡ one_field code field }
+fn one_field(code: u32, field: Field) -> Option<CheckLine>
+    ensures { result ≡ one_field code (Some field) }
 {
     match field {
         Field::Number(v) => deep_step(code, v),
         Field::Place(place) => place_instruction(code, place),
-        Field::Malformed => Line::Malformed,
     }
 }
 
 // The line of a word with two fields, the second of which is a number.
-fn two_fields(code: u32, first: Field, second: Number) -> Line
-    ensures { result ≡ two_fields code first second }
+fn two_fields(code: u32, first: Field, n: u32) -> Option<CheckLine>
+    ensures { result ≡ two_fields code (Some first) (Some n) }
 {
-    match second {
-        Number::Of(n) => match first {
-            Field::Number(k) => argument_step(code, k, n),
-            Field::Place(place) => argument_instruction(code, place, n),
-            Field::Malformed => Line::Malformed,
-        },
-        Number::Malformed => Line::Malformed,
+    match first {
+        Field::Number(k) => argument_step(code, k, n),
+        Field::Place(place) => argument_instruction(code, place, n),
     }
 }
 
 // What the word's number and what is left behind the word say.
-fn line_of(code: u32, rest: &[u8]) -> Line
+fn line_of(code: u32, rest: &[u8]) -> Option<CheckLine>
     ensures { result ≡ said_by code (fields_left tab rest.now) }
 {
-    if rest.len() == 0 {
+    if rest.is_empty() {
         return no_field(code);
     }
     let end = fields::end_of_field(rest, TAB);
-    let first = field_of(fields::field(rest, end));
+    let first = field_of(fields::field(rest, end))?;
     if end == rest.len() {
         return one_field(code, first);
     }
     let behind = fields::rest_after(rest, end);
     let last = fields::end_of_field(behind, TAB);
-    if last == behind.len() {
-        return two_fields(code, first, numbers::read(fields::field(behind, last)));
+    if last != behind.len() {
+        return None;
     }
-    Line::Malformed
+    let second = numbers::read(fields::field(behind, last))?;
+    two_fields(code, first, second)
 }
 
 // What a line says.
-pub fn read_line(line: &[u8]) -> Line
+pub fn read_line(line: &[u8]) -> Option<CheckLine>
     ensures { result ≡ line_says line.now }
 {
     let end = split::end_of(line, TAB);

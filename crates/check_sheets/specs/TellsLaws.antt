@@ -1,10 +1,11 @@
 -- Laws of the verdict: every sheet that is read has lines in order and in their sizes, so the run on names tells whether its
 -- instructions are right; and nothing else tells it.
-use Rattle.std.specs.Prelude.{ℕ, suc, ◌-◌, ◌≡◌, refl, Bool, true, false, List, [], ◌∷◌, ltb, length}
-use Rattle.std.proofs.Common.{sym, ◌∙◌, arith, ltb-false, eq-eqb}
+use Rattle.std.specs.Prelude.{ℕ, suc, ◌-◌, ◌≡◌, refl, Bool, true, false, List, [], ◌∷◌, ltb, length, Some, None}
+use Rattle.std.proofs.Common.{sym, ◌∙◌}
 use Rattle.std.proofs.lemmas.Bool.{false≢true}
 use Rattle.std.specs.Prelude.{if◌then◌else◌}
-use Rattle.refusals.specs.Refusals.{accepted, refused_form, refused_order}
+use Rattle.refusals.specs.declared.Refusal.TheVariants.{Form, Order as WrongOrder}
+use Rattle.refusals.specs.Refusals.{accepted}
 use Rattle.split.specs.Split.{line_feed, split}
 use Rattle.steps.specs.declared.CheckLine.{CheckLine}
 use Rattle.steps.specs.declared.Order.{Order}
@@ -12,12 +13,11 @@ use Rattle.steps.specs.Steps.{steps_of, is_uncalled, refusal_of}
 use Rattle.steps.specs.Order.{fresh_order, judged}
 use Rattle.steps.specs.Sums.{Sums}
 use Rattle.steps.proofs.SumsLaws.{sums_none, sums_refusal, sums_accepted}
-use Rattle.check_lines.specs.declared.Line.{Line}
-use Rattle.check_lines.specs.declared.Line.TheVariants.{Malformed, Says}
+use Rattle.check_lines.specs.Behind.{Line}
 use Rattle.check_lines.specs.CheckLines.{line_says}
 use Rattle.symbolic.specs.Symbolic.{all_accepted}
 use Rattle.verdict.specs.VerdictLaws.{verdict_exactly}
-use Rattle.check_sheets.specs.CheckSheets.{Reading, bad, reads, with_line, last_read, line_read, read_from, reading, Tells, ByVerdict}
+use Rattle.check_sheets.specs.CheckSheets.{Reading, bad, reads, with_line, bad_or, last_read, line_read, read_from, reading, Tells, ByVerdict}
 use Rattle.check_sheets.specs.Running.{verdict, verdict_of}
 
 -- ---- The lines of a sheet that is read are accepted, one after the other
@@ -31,16 +31,16 @@ in_front-accepted :
     → Accepted (judged order line).order r → Accepted order (with_line line r)
 unfolding all_accepted
 in_front-accepted order line (bad number refusal) good others = tt
-in_front-accepted order line (reads lines) good others = simp (eq-eqb _ _ good, others)
+in_front-accepted order line (reads lines) good others = simp (good, others)
 
 last-accepted : (order : Order) (earlier : List CheckLine) (number : ℕ) (left : List ℕ) → Accepted order (last_read earlier number left)
 unfolding last_read all_accepted
 last-accepted order earlier number left =
     elim (ltb 0 (length left)) as
-    (λ b. Accepted order (if b then bad number refused_form else if is_uncalled (steps_of earlier) then bad (number - 1) refused_order else reads [])) [
+    (λ b. Accepted order (if b then bad number Form else if is_uncalled (steps_of earlier) then bad (number - 1) WrongOrder else reads [])) [
       | true ↦ tt
       | false ↦ elim (is_uncalled (steps_of earlier)) as
-          (λ b. Accepted order (if b then bad (number - 1) refused_order else reads []))
+          (λ b. Accepted order (if b then bad (number - 1) WrongOrder else reads []))
           [ true ↦ tt | false ↦ refl ]
     ]
 
@@ -48,14 +48,13 @@ line-accepted :
     (order : Order) (earlier : List CheckLine) → Sums order earlier → (number : ℕ) (said : Line) (others : List CheckLine → Reading)
     → ((order : Order) (earlier : List CheckLine) → Sums order earlier → Accepted order (others earlier))
     → Accepted order (line_read earlier number said others)
-line-accepted order earlier sums number Malformed others all = tt
-line-accepted order earlier sums number (Says line) others all =
-    elim (ltb 0 (refusal_of earlier line)) as
-    (λ b. ltb 0 (refusal_of earlier line) ≡ b
-    → Accepted order (if b then bad number (refusal_of earlier line) else with_line line (others (line ∷ earlier)))) [
-      | true ↦ λ e. tt
-      | false ↦ λ e. (let h = ltb-false 0 (refusal_of earlier line) e in
-          let good : (judged order line).refusal ≡ accepted = omega (arith, sums_refusal order earlier sums line) in
+line-accepted order earlier sums number None others all = tt
+line-accepted order earlier sums number (Some line) others all =
+    elim (refusal_of earlier line) as
+    (λ r. refusal_of earlier line ≡ r → Accepted order (bad_or number r (with_line line (others (line ∷ earlier))))) [
+      | Some refusal ↦ λ e. tt
+      | None ↦ λ e. (
+          let good : (judged order line).refusal ≡ accepted = sums_refusal order earlier sums line ∙ e in
           in_front-accepted order line (others (line ∷ earlier)) good
           (all (judged order line).order (line ∷ earlier) (sums_accepted order earlier sums line good)))
     ]

@@ -1,12 +1,12 @@
 // The whole answer to a check sheet.
 #![tactic(auto)]
 
-ghost use Rattle.std.specs.Prelude.{◌-◌, ◌≤◌, ◌≡◌, length};
+ghost use Rattle.std.specs.Prelude.{◌≤◌, ◌≡◌, length};
 ghost use Rattle.sizes.specs.Sizes.{sheet_bytes};
 ghost use Rattle.refusals.specs.Refusals.{refused_form};
-ghost use Rattle.symbolic.specs.Tables.{symbols_of, taking_of, taken_with};
-ghost use Rattle.symbolic.specs.Symbolic.{pairs, listed};
-ghost use Rattle.verdict.specs.Verdict.{decided_by};
+ghost use Rattle.steps.specs.Order.{with_refusal};
+ghost use Rattle.symbolic.specs.Symbolic.{taking_of};
+ghost use Rattle.verdict.specs.Verdict.{decided};
 ghost use Rattle.printing.specs.Printing.{Put};
 ghost use Rattle.answered.specs.Answered.{filled_by};
 ghost use Rattle.check_sheets.specs.CheckSheets.{
@@ -19,139 +19,83 @@ ghost use Rattle.check_sheets.specs.CheckSheets.{
 };
 ghost use Rattle.check_sheets.specs.Running.{line_taken, last_run, run_of};
 
-use answered::Answered;
-use check_lines::Line;
-use sizes::{SHEET_BYTES, VARIABLES};
+use answered::{Answered, Refused};
+use refusals::Refusal;
+use sizes::SHEET_BYTES;
 use split::LINE_FEED;
-use steps::Order;
-use symbolic::{Counts, NO_NAME, PAIR_CELLS, PairCells, Places, Taken, Values};
+use steps::{Judged, Order};
+use symbolic::Symbols;
 
 // The bytes of a verdict.
 pub const VERDICT_BYTES: usize = 9;
 
-// The outcome of the lines: the first bad one and its refusal, or whether the instructions are right.
-#[derive(Clone, Copy)]
-enum Run {
-    Refused(usize, u32),
-    Decided(bool),
-}
-
 // A line that is refused before it is judged.
-fn malformed(order: Order, counts: Counts) -> Taken
-    ensures { result ≡ taken_with order counts refused_form }
+fn malformed(order: Order) -> Judged
+    ensures { result ≡ with_refusal order refused_form }
 {
-    Taken {
+    Judged {
         order,
-        counts,
-        refusal: refusals::FORM,
+        refusal: Some(Refusal::Form),
     }
 }
 
 // A line read, judged and, where it is accepted, carried out.
-fn carry_line(
-    order: Order,
-    counts: Counts,
-    places: &mut Places,
-    demands: &mut PairCells,
-    made: &mut PairCells,
-    values: &mut Values,
-    wants: &mut PairCells,
-    due: &mut PairCells,
-    goal: &mut PairCells,
-    claims: &mut PairCells,
-    line: &[u8],
-) -> Taken
-    ensures { taking_of places.new demands.new made.new values.new wants.new due.new goal.new claims.new result ≡ line_taken order (symbols_of counts places.old demands.old made.old values.old wants.old due.old goal.old claims.old) line.now }
+fn carry_line(order: Order, symbols: &mut Symbols, line: &[u8]) -> Judged
+    ensures { taking_of symbols.new result ≡ line_taken order symbols.old line.now }
 {
-    let said = check_lines::read_line(line);
-    match said {
-        Line::Malformed => malformed(order, counts),
-        Line::Says(said) => symbolic::take_line(
-            order, counts, places, demands, made, values, wants, due, goal, claims, said,
-        ),
+    match check_lines::read_line(line) {
+        None => malformed(order),
+        Some(said) => symbolic::take_line(order, symbols, said),
     }
-}
-
-// The number of the line before.
-fn one_less(number: usize) -> usize
-    ensures { result ≡ number - 1 }
-{
-    if number < 1 {
-        return 0;
-    }
-    number - 1
 }
 
 // What stands behind the last LF is a line that has none, and goal steps with no `call` after them are reported at the last line;
-// otherwise the verdict is given.
-fn finish(
-    order: Order,
-    counts: Counts,
-    demands: &PairCells,
-    made: &PairCells,
-    wants: &PairCells,
-    due: &PairCells,
-    claims: &PairCells,
-    number: usize,
-    left: &[u8],
-) -> Run
-    ensures { result ≡ last_run order number left.now (decided_by (listed (pairs demands.now counts.demands)) (listed (pairs wants.now counts.wants)) (listed (pairs claims.now counts.claims)) (listed (pairs made.now counts.made)) (listed (pairs due.now counts.due))) }
+// otherwise it is told whether the instructions are right.
+fn finish(order: Order, symbols: &Symbols, number: usize, left: &[u8]) -> Result<bool, Refused>
+    ensures { result ≡ last_run order number left.now (decided symbols.now) }
 {
     if 0 < left.len() {
-        return Run::Refused(number, refusals::FORM);
+        return Err(Refused {
+            line: number,
+            refusal: Refusal::Form,
+        });
     }
-    let refusal = steps::refusal_at_end(order);
-    if 0 < refusal {
-        return Run::Refused(one_less(number), refusal);
+    match steps::refusal_at_end(order) {
+        Some(refusal) => Err(Refused {
+            line: number.saturating_sub(1),
+            refusal,
+        }),
+        None => Ok(verdict::is_right(symbols)),
     }
-    Run::Decided(verdict::is_right(counts, demands, made, wants, due, claims))
 }
 
-// The lines of a sheet, one after the other.
-fn run_lines(sheet: &[u8]) -> Run
+// The lines of a sheet, one after the other: the first bad one, or whether the instructions are right.
+fn run_lines(sheet: &[u8]) -> Result<bool, Refused>
     requires { length sheet.now ≤ sheet_bytes }
     ensures { result ≡ run_of (reading sheet.now) }
 {
-    let mut places = symbolic::fresh_places();
-    let mut values: Values = [NO_NAME; VARIABLES];
-    let mut demands: PairCells = [0; PAIR_CELLS];
-    let mut made: PairCells = [0; PAIR_CELLS];
-    let mut wants: PairCells = [0; PAIR_CELLS];
-    let mut due: PairCells = [0; PAIR_CELLS];
-    let mut goal: PairCells = [0; PAIR_CELLS];
-    let mut claims: PairCells = [0; PAIR_CELLS];
+    let mut symbols = symbolic::NOTHING;
+    symbolic::begin(&mut symbols);
     let mut order = steps::fresh_order();
-    let mut counts = symbolic::fresh_counts();
     let mut number = 1;
     let mut rest = sheet;
     let mut end = split::end_of(rest, LINE_FEED);
+    // What is left behind a line is handed on as a part that starts in the middle.
     while end < rest.len() {
-        let taken = carry_line(
-            order,
-            counts,
-            &mut places,
-            &mut demands,
-            &mut made,
-            &mut values,
-            &mut wants,
-            &mut due,
-            &mut goal,
-            &mut claims,
-            split::part_before(rest, end),
-        );
-        if 0 < taken.refusal {
-            return Run::Refused(number, taken.refusal);
+        let judged = carry_line(order, &mut symbols, split::part_before(rest, end));
+        if let Some(refusal) = judged.refusal {
+            return Err(Refused {
+                line: number,
+                refusal,
+            });
         }
-        order = taken.order;
-        counts = taken.counts;
+        order = judged.order;
         let next = split::part_after(rest, end);
         rest = next;
         number += 1;
         end = split::end_of(rest, LINE_FEED);
     }
-    finish(
-        order, counts, &demands, &made, &wants, &due, &claims, number, rest,
-    )
+    finish(order, &symbols, number, rest)
 }
 
 // The verdict's word.
@@ -170,10 +114,12 @@ fn write_verdict(out: &mut [u8], right: bool) -> Answered
     ensures out_after { out.new ≡ filled_by (roomed right (length out.old)) (word_of right) out.old }
 {
     if out.len() < VERDICT_BYTES {
-        return Answered::Refused(0, refusals::ROOM);
+        return Err(Refused {
+            line: 0,
+            refusal: Refusal::Room,
+        });
     }
-    let count = put_verdict(out, right);
-    Answered::Written(count)
+    Ok(put_verdict(out, right))
 }
 
 // The answer to a check sheet: its length is tested first, then its lines, and the room last.
@@ -183,11 +129,11 @@ pub fn answer(sheet: &[u8], out: &mut [u8]) -> Answered
         × (out.new ≡ filled right sheet.now out.old)) }
 {
     if SHEET_BYTES < sheet.len() {
-        return Answered::Refused(0, refusals::FULL);
+        return Err(Refused {
+            line: 0,
+            refusal: Refusal::Full,
+        });
     }
-    let run = run_lines(sheet);
-    match run {
-        Run::Refused(line, refusal) => Answered::Refused(line, refusal),
-        Run::Decided(right) => write_verdict(out, right),
-    }
+    let right = run_lines(sheet)?;
+    write_verdict(out, right)
 }

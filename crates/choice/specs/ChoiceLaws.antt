@@ -1,6 +1,6 @@
 -- Laws of choosing: a register at a time, and what is chosen as a plain fact.
 use Prim.Native.Nat.{ℕ, zero, suc, ◌+◌, ◌-◌, ◌≤◌, ◌<◌}
-use Rattle.std.specs.Prelude.{◌≡◌, refl, Bool, true, false, not, ◌&&◌, List, [], ◌∷◌, map, leb, length, get_or, drop}
+use Rattle.std.specs.Prelude.{Option, Some, None, ◌≡◌, refl, Bool, true, false, not, ◌&&◌, List, [], ◌∷◌, map, leb, length, get_or, drop}
 use Rattle.std.proofs.Common.{ap, ◌∙◌, add-one, drop_of_length-le}
 use Rattle.std.proofs.Math.Bool.{and-true, and-false}
 use native.Mathlib.Omega.{arith}
@@ -10,8 +10,6 @@ use Rattle.std.specs.Prelude.{if◌then◌else◌}
 use Rattle.notation.specs.Lists.{numbers_from}
 use Rattle.sizes.specs.Sizes.{registers}
 use Rattle.temp_var_data.specs.Uses.{register_of}
-use Rattle.choice.specs.declared.Chosen.{Chosen}
-use Rattle.choice.specs.declared.Chosen.TheVariants.{Register, NoRegister}
 use Rattle.bit_set.specs.BitSet.{has, empty_set}
 use Rattle.bit_set.specs.BitSetLaws.{has-empty}
 use Rattle.allocator_state.specs.declared.Counters.{Counters}
@@ -22,7 +20,7 @@ use Rattle.choice.specs.Choice.{in_use, is_free, first, registers_from}
 module _ (test : ℕ → Bool) (uses : List ℕ) (i : ℕ) where
   pub first_hit :
       i < length uses → test (register_of (get_or uses i 0)) ≡ true
-      → first test (map register_of (drop i uses)) ≡ Register (register_of (get_or uses i 0))
+      → first test (map register_of (drop i uses)) ≡ Some (register_of (get_or uses i 0))
   unfolding first
   first_hit h t = rw (drop-cons uses i 0 h) (simp t)
 
@@ -32,14 +30,14 @@ module _ (test : ℕ → Bool) (uses : List ℕ) (i : ℕ) where
   unfolding first
   first-miss h t = rw (add-one i, drop-cons uses i 0 h) (simp t)
 
-  pub first-end : length uses ≤ i → first test (map register_of (drop i uses)) ≡ NoRegister
+  pub first-end : length uses ≤ i → first test (map register_of (drop i uses)) ≡ None
   unfolding first
   first-end h = rw (drop_of_length-le uses {i = i} h)
 
 -- ---- The least register, from r on
 
 module _ (test : ℕ → Bool) (r : ℕ) where
-  pub least_hit : r ≤ registers → test r ≡ true → first test (registers_from r) ≡ Register r
+  pub least_hit : r ≤ registers → test r ≡ true → first test (registers_from r) ≡ Some r
   unfolding first registers_from numbers_from
   least_hit h t =
       let e : suc registers - r ≡ suc (registers - r) = omega arith in
@@ -51,7 +49,7 @@ module _ (test : ℕ → Bool) (r : ℕ) where
       let e : suc registers - r ≡ suc (suc registers - (r + 1)) = omega arith in
       rw e (simp t (rw (add-one r)))
 
-  pub least_end : registers < r → first test (registers_from r) ≡ NoRegister
+  pub least_end : registers < r → first test (registers_from r) ≡ None
   unfolding first registers_from numbers_from
   least_end h =
       let e : suc registers - r ≡ 0 = omega arith in
@@ -63,8 +61,8 @@ pub first_agrees : (f g : ℕ → Bool) → ((r : ℕ) → f r ≡ g r) → (rs 
 unfolding first
 first_agrees f g e [] = refl
 first_agrees f g e (r ∷ rs) =
-    ap (λ (t : Bool). if t then Register r else first f rs) (e r)
-    ∙ ap (λ (x : Chosen). if g r then Register r else x) (first_agrees f g e rs)
+    ap (λ (t : Bool). if t then Some r else first f rs) (e r)
+    ∙ ap (λ (x : Option ℕ). if g r then Some r else x) (first_agrees f g e rs)
 
 -- a range that ends before it begins bars nothing
 none_between : (r : ℕ) → (leb 1 r && leb r 0) ≡ false

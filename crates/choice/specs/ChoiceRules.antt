@@ -1,15 +1,14 @@
 -- The choice for a variable as plain facts: rules 8.2 and 8.3.
-use Rattle.std.specs.Prelude.{ℕ, zero, suc, ◌+◌, ◌-◌, ◌≤◌, ◌<◌, ◌≡◌, refl, Bool, true, false, List, ◌↔◌, eqb}
+use Rattle.std.specs.Prelude.{Some, None, ℕ, zero, suc, ◌+◌, ◌-◌, ◌≤◌, ◌<◌, ◌≡◌, refl, Bool, true, false, List, ◌↔◌, eqb}
 use Rattle.std.proofs.Common.{ap, sym, subst, arith, eqb-true}
 use Rattle.std.proofs.lemmas.Bool.{eqb-false}
 use Rattle.std.specs.Prelude.{if◌then◌else◌}
 use Rattle.notation.specs.Lists.{numbers_from}
 use Rattle.sizes.specs.Sizes.{registers}
 use Rattle.allocator_state.specs.declared.Counters.{Counters}
-use Rattle.choice.specs.declared.Chosen.TheVariants.{Register, NoRegister}
 use Rattle.choice.specs.Choice.{first, registers_from, first_unused, least_free, otherwise, chosen}
 
-never : (r : ℕ) → NoRegister ≡ Register r → ⊥
+never : (r : ℕ) → None ≡ Some r → ⊥
 never r e = let z : ◌≡◌ {A = ℕ} 0 1 = cc in omega arith
 
 -- r is the least from n on, below an end, that passes
@@ -41,24 +40,24 @@ least_later test n end r t l =
           refl;
     }
 
-first_least : (test : ℕ → Bool) (k n r : ℕ) → first test (numbers_from n k) ≡ Register r → Least test n (n + k) r
+first_least : (test : ℕ → Bool) (k n r : ℕ) → first test (numbers_from n k) ≡ Some r → Least test n (n + k) r
 unfolding first numbers_from
 first_least test zero n r e = absurd (never r e)
 first_least test (suc k) n r e =
-    (elim (test n) as (λ t. test n ≡ t → (if t then Register n else first test (numbers_from (suc n) k)) ≡ Register r → Least test n (n + suc k) r) [
+    (elim (test n) as (λ t. test n ≡ t → (if t then Some n else first test (numbers_from (suc n) k)) ≡ Some r → Least test n (n + suc k) r) [
       | true ↦ λ t e. (let same : n ≡ r = cc in least_here test n (n + suc k) r same (omega arith) t)
       | false ↦ λ t e. (let s : suc n + k ≡ n + suc k = omega arith in least_later test n (n + suc k) r t (rw s at (first_least test k (suc n) r e)))
     ])
     refl e
 
-least_first : (test : ℕ → Bool) (k n r : ℕ) → Least test n (n + k) r → first test (numbers_from n k) ≡ Register r
+least_first : (test : ℕ → Bool) (k n r : ℕ) → Least test n (n + k) r → first test (numbers_from n k) ≡ Some r
 unfolding first numbers_from
 least_first test zero n r l = absurd (omega (arith, l.from, l.below))
 least_first test (suc k) n r l =
-    elim (eqb n r) as (λ x. eqb n r ≡ x → (if test n then Register n else first test (numbers_from (suc n) k)) ≡ Register r) [
+    elim (eqb n r) as (λ x. eqb n r ≡ x → (if test n then Some n else first test (numbers_from (suc n) k)) ≡ Some r) [
       | true ↦ λ x. (let e = eqb-true n r x in
           let t : test n ≡ true = subst (λ (y : ℕ). test y ≡ true) (sym e) l.passes in
-          simp t (ap Register e))
+          simp t (ap Some e))
       | false ↦ λ x. (let d = eqb-false n r x in
           let t : test n ≡ false = l.others n (omega arith) (omega (arith, d, l.from)) in
           simp t (least_first test k (suc n) r (record {
@@ -72,7 +71,7 @@ least_first test (suc k) n r l =
 
 -- the least register from a start
 pub least_exactly :
-    (test : ℕ → Bool) (n r : ℕ) → n ≤ registers → (first test (registers_from n) ≡ Register r) ↔ Least test n (suc registers) r
+    (test : ℕ → Bool) (n r : ℕ) → n ≤ registers → (first test (registers_from n) ≡ Some r) ↔ Least test n (suc registers) r
 unfolding registers_from
 least_exactly test n r h =
     let e : n + (suc registers - n) ≡ suc registers = omega arith in
@@ -80,12 +79,12 @@ least_exactly test n r h =
 
 -- rule 8.2: a use whose register is not in use gives it, whatever is to be avoided
 pub use_set_wins :
-    (c : Counters) (uses : List ℕ) (avoided r : ℕ) → first_unused c uses ≡ Register r → chosen c uses avoided ≡ Register r
+    (c : Counters) (uses : List ℕ) (avoided r : ℕ) → first_unused c uses ≡ Some r → chosen c uses avoided ≡ Some r
 unfolding chosen otherwise
 use_set_wins c uses avoided r e = rw e
 
 -- rule 8.3: otherwise the least that is free
 pub otherwise_least :
-    (c : Counters) (uses : List ℕ) (avoided : ℕ) → first_unused c uses ≡ NoRegister → chosen c uses avoided ≡ least_free c avoided
+    (c : Counters) (uses : List ℕ) (avoided : ℕ) → first_unused c uses ≡ None → chosen c uses avoided ≡ least_free c avoided
 unfolding chosen otherwise
 otherwise_least c uses avoided e = rw e

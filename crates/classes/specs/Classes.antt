@@ -1,18 +1,13 @@
 -- Classes of names: what a list of equalities makes equal. Each name has a label, the least name of its class.
 use Rattle.std.specs.Prelude.{ℕ, ◌+◌, ◌*◌, min, max, Bool, true, ◌&&◌, List, [], ◌∷◌, map, ltb, eqb, get_or}
 use Rattle.std.specs.Prelude.{if◌then◌else◌}
+use Rattle.std.specs.List.{list_all}
 use Rattle.notation.specs.Lists.{numbers_from}
 use Rattle.sizes.specs.Sizes.{steps}
 
 -- the names are the numbers below this: three for each step, and three more
 abbrev pub names : ℕ
 names = 3 * (steps + 1)
-
--- numbers taken two at a time; a lone last one is left out
-unfoldable pub pairs_of : List ℕ → List (ℕ × ℕ)
-pairs_of [] = []
-pairs_of (x ∷ []) = []
-pairs_of (x ∷ (y ∷ rest)) = (x, y) ∷ pairs_of rest
 
 -- whether both numbers of a pair are names, and those of all pairs
 unfoldable pub both_names : ℕ → ℕ → Bool
@@ -50,7 +45,9 @@ own_labels = numbers_from 0 names
 unfoldable pub labelling : List (ℕ × ℕ) → List ℕ
 labelling pairs = labels_after own_labels pairs
 
--- the two of each pair have one label
+-- the two of a pair have one label, and those of all pairs
+abbrev pub is_same : List ℕ → ℕ × ℕ → Bool
+is_same labels p = eqb (label_of labels p.0) (label_of labels p.1)
+
 unfoldable pub all_same : List ℕ → List (ℕ × ℕ) → Bool
-all_same labels [] = true
-all_same labels ((x, y) ∷ pairs) = eqb (label_of labels x) (label_of labels y) && all_same labels pairs
+all_same labels pairs = list_all (is_same labels) pairs

@@ -6,6 +6,7 @@ ghost use Rattle.code_deque.specs.CodeDeque.{pushed};
 
 use instructions::Instruction;
 
+// One variant a length, not an array with a length: no instruction stands where there is none.
 #[derive(Clone, Copy)]
 pub enum CodeDeque {
     Empty,

@@ -1,60 +1,66 @@
 -- A line, step by step: which event it is, what was called for it, and what refuses it.
-use Rattle.std.specs.Prelude.{ℕ, ◌≤◌, ◌<◌, ◌≡◌, List}
+use Rattle.std.specs.Prelude.{ℕ, ◌≡◌, true, false, List, Option}
 use Rattle.std.proofs.Math.Path.{refl, ap}
-use Rattle.std.proofs.Common.{sym, ◌∙◌}
-use borrow.Author.Tests.{le-ltb, lt-ltb}
+use Rattle.std.proofs.Common.{sym, ◌∙◌, ap₂}
+use Rattle.refusals.specs.declared.Refusal.{Refusal}
+use Rattle.refusals.specs.Refusals.{is_refused}
 use Rattle.events.specs.declared.Event.{Event}
 use Rattle.events.specs.Events.{refusal_before}
+use Rattle.allocator_state.specs.declared.Counters.{Counters}
+use Rattle.restricting_sets.specs.declared.VariableSets.{VariableSets}
+use Rattle.branch_stack.specs.declared.BranchStack.{BranchStack}
 use Rattle.debray_allocator.specs.declared.State.{State}
 use Rattle.debray_allocator.specs.declared.Acted.{Acted}
 use Rattle.debray_allocator.specs.declared.Answer.{Answer}
+use Rattle.debray_allocator.specs.State.{state_of}
 use Rattle.debray_allocator.specs.DebrayAllocator.{by_refusal, answer_of, with_counters, carried_out, seen_after, acted_of, seen_in, refused_with, acted, unless_refused, stepped}
 
 -- an event by its name, and what the call for it makes
 pub carried :
-    {X : Type 0} (into : State → X → Answer) (s : State) (list records use_sets use_counts no_use conflict mappings freed_registers freed_slots branch_rows branch_sets : List ℕ)
-    {event named : Event} {a b : Acted} {made meant : X}
+    {X : Type 0} (into : State → X → Answer) (s : State) (list records : List ℕ) (sets : VariableSets) (mappings freed_registers freed_slots : List ℕ) (branches : BranchStack)
+    {event named : Event} {kept counters : Counters} {a b : Acted} {made meant : X}
     → event ≡ named
+    → kept ≡ counters
     → a ≡ b
     → made ≡ meant
-    → answer_of records use_sets use_counts no_use conflict mappings freed_registers freed_slots branch_rows branch_sets b ≡ into s made
+    → answer_of (state_of counters records sets mappings freed_registers freed_slots branches) b ≡ into s made
     → into s meant ≡ carried_out s named list
-    → answer_of records use_sets use_counts no_use conflict mappings freed_registers freed_slots branch_rows branch_sets a ≡ carried_out s event list
-carried into s list records use_sets use_counts no_use conflict mappings freed_registers freed_slots branch_rows branch_sets told wrapped called before after =
-    ap (answer_of records use_sets use_counts no_use conflict mappings freed_registers freed_slots branch_rows branch_sets) wrapped ∙ before ∙ ap (into s) called ∙ after ∙ sym (ap (λ e. carried_out s e list) told)
+    → answer_of (state_of kept records sets mappings freed_registers freed_slots branches) a ≡ carried_out s event list
+carried into s list records sets mappings freed_registers freed_slots branches told kept wrapped called before after =
+    ap₂ (λ c a. answer_of (state_of c records sets mappings freed_registers freed_slots branches) a) kept wrapped ∙ before ∙ ap (into s) called ∙ after ∙ sym (ap (λ e. carried_out s e list) told)
 
 module _ (s : State) (event : Event) (list : List ℕ) where
-  refused_with_lem : (refusal : ℕ) → with_counters s (by_refusal s.counters refusal) ≡ refused_with s refusal
+  refused_with_lem : (refusal : Option Refusal) → answer_of s (by_refusal refusal) ≡ refused_with s refusal
   unfolding refused_with
   refused_with_lem refusal = refl
 
   pub acted-refused :
-      {refusal : ℕ} {a : Acted}
+      {refusal : Option Refusal} {a : Acted}
       → refusal ≡ refusal_before s.counters event list
-      → 0 < refusal
-      → a ≡ by_refusal s.counters refusal
-      → with_counters s a ≡ acted s event list
+      → is_refused refusal ≡ true
+      → a ≡ by_refusal refusal
+      → answer_of s a ≡ acted s event list
   unfolding acted
-  acted-refused {refusal} e h refused = ap (with_counters s) refused ∙ refused_with_lem refusal ∙ simp (← e, lt-ltb _ _ h)
+  acted-refused {refusal} e h refused = ap (answer_of s) refused ∙ refused_with_lem refusal ∙ simp (← e, h)
 
   pub acted-carried :
-      {refusal : ℕ} {a : Acted} (b : Answer)
+      {refusal : Option Refusal} {c : Counters} (b : Answer)
       → refusal ≡ refusal_before s.counters event list
-      → refusal ≤ 0
+      → is_refused refusal ≡ false
       → b ≡ carried_out s event list
-      → a ≡ seen_after (acted_of b) event
-      → with_counters b.state a ≡ acted s event list
+      → c ≡ seen_after b.state.counters event
+      → with_counters b.state c (acted_of b) ≡ acted s event list
   unfolding acted
   acted-carried b e h made seen =
-      ap (with_counters b.state) seen ∙ ap (λ b. seen_in b event) made ∙ simp (← e, le-ltb _ _ h)
+      ap (λ c. with_counters b.state c (acted_of b)) seen ∙ ap (λ b. seen_in b event) made ∙ simp (← e, h)
 
   -- a refused line leaves the state as it was; any other is answered as it is
   pub stepped-refused :
-      (b : Answer) → b ≡ acted s event list → 0 < b.refusal
-      → with_counters s (by_refusal s.counters b.refusal) ≡ stepped s event list
+      (b : Answer) → b ≡ acted s event list → is_refused b.refusal ≡ true
+      → answer_of s (by_refusal b.refusal) ≡ stepped s event list
   unfolding stepped unless_refused
-  stepped-refused b e h = refused_with_lem b.refusal ∙ simp (← e, lt-ltb _ _ h)
+  stepped-refused b e h = refused_with_lem b.refusal ∙ simp (← e, h)
 
-  pub stepped-accepted : (b : Answer) → b ≡ acted s event list → b.refusal ≤ 0 → b ≡ stepped s event list
+  pub stepped-accepted : (b : Answer) → b ≡ acted s event list → is_refused b.refusal ≡ false → b ≡ stepped s event list
   unfolding stepped unless_refused
-  stepped-accepted b e h = simp (← e, le-ltb _ _ h)
+  stepped-accepted b e h = simp (← e, h)

@@ -2,7 +2,7 @@
 #![tactic(auto)]
 
 ghost use Rattle.std.specs.Prelude.{◌≡◌};
-ghost use Rattle.debray_allocator.specs.State.{state_of, fresh_state};
+ghost use Rattle.debray_allocator.specs.State.{fresh_state};
 ghost use Rattle.debray_allocator.specs.DebrayAllocator.{
   plainly,
   by_release,
@@ -16,18 +16,18 @@ ghost use Rattle.debray_allocator.specs.DebrayAllocator.{
 
 use allocation::TempFreeList;
 use allocator_state::Counters;
-use branch_stack::{BranchRows, BranchSets};
+use branch_stack::BranchStack;
 use code_deque::CodeDeque;
 use events::Event;
 use freeing::Released;
-use mark_var::Mark;
 use marks::Marked;
 use perm_free_list::PermFreeList;
-use register_sets::RegisterSets;
+use refusals::Refusal;
 use registers::RegType;
+use reserved_var::Mark;
+use restricting_sets::VariableSets;
 use shallow_temp_mappings::Mappings;
 use sizes::{FREED_REGISTERS, FREED_SLOTS, LAST_REGISTER, OPEN_BRANCHES, VARIABLES};
-use temp_var_data::{UseCounts, UseSets};
 use variable_records::Records;
 
 // The whole state of a clause: numbers, and tables of numbers.
@@ -36,40 +36,30 @@ use variable_records::Records;
 pub struct State {
     pub counters: Counters,
     pub records: Records,
-    pub use_sets: UseSets,
-    pub use_counts: UseCounts,
-    pub no_use: RegisterSets,
-    pub conflict: RegisterSets,
+    pub sets: VariableSets,
     pub mappings: Mappings,
     pub freed_registers: TempFreeList,
     pub freed_slots: PermFreeList,
-    pub branch_rows: BranchRows,
-    pub branch_sets: BranchSets,
+    pub branches: BranchStack,
 }
 
-// The place that a line of the answer tells, if the event has one.
-#[derive(Clone, Copy)]
-pub enum At {
-    Nowhere,
-    Place(RegType),
-}
-
-// The outcome of a line, beside the tables.
+// The outcome of a line, beside the state. A line of the answer tells the place, if the event has one. A struct and no Result,
+// since a refused line tells its instructions, too.
 #[derive(Clone, Copy)]
 pub struct Acted {
-    pub counters: Counters,
     pub code: CodeDeque,
-    pub at: At,
-    pub refusal: u32,
+    pub at: Option<RegType>,
+    pub refusal: Option<Refusal>,
 }
 
-// The outcome of a line: the state afterwards, the instructions and the place, or the refusal, 0 where there is none.
+// The outcome of a line: the state afterwards, the instructions and the place, and the refusal, if there is one.
+// A struct and no Result: refused, it has the old state, which `step` hands back by value.
 #[derive(Clone, Copy)]
 pub struct Answer {
     pub state: State,
     pub code: CodeDeque,
-    pub at: At,
-    pub refusal: u32,
+    pub at: Option<RegType>,
+    pub refusal: Option<Refusal>,
 }
 
 // A fresh clause.
@@ -79,260 +69,199 @@ pub fn fresh() -> State
     State {
         counters: allocator_state::fresh_counters(),
         records: [0; variable_records::TABLE_CELLS],
-        use_sets: [0; temp_var_data::ENTRIES],
-        use_counts: [0; VARIABLES],
-        no_use: [0; VARIABLES],
-        conflict: [0; VARIABLES],
+        sets: VariableSets {
+            use_sets: [0; temp_var_data::ENTRIES],
+            use_counts: [0; VARIABLES],
+            no_use: [0; VARIABLES],
+            conflict: [0; VARIABLES],
+        },
         mappings: [VARIABLES as u32; LAST_REGISTER as usize + 1],
         freed_registers: [0; FREED_REGISTERS],
         freed_slots: [0; FREED_SLOTS * perm_free_list::ENTRY_CELLS],
-        branch_rows: [0; OPEN_BRANCHES * branch_stack::NUMBERS_PER_BRANCH],
-        branch_sets: [0; OPEN_BRANCHES * branch_stack::SETS_PER_BRANCH],
+        branches: BranchStack {
+            rows: [0; OPEN_BRANCHES * branch_stack::NUMBERS_PER_BRANCH],
+            sets: [0; OPEN_BRANCHES * branch_stack::SETS_PER_BRANCH],
+        },
     }
 }
 
-// An event that changes the state and tells nothing.
-fn plain(counters: Counters) -> Acted
-    ensures { result ≡ plainly counters }
+// An event that tells nothing but a refusal, if there is one.
+fn refused(refusal: Option<Refusal>) -> Acted
+    ensures { result ≡ by_refusal refusal }
 {
     Acted {
-        counters,
         code: CodeDeque::Empty,
-        at: At::Nowhere,
-        refusal: refusals::ACCEPTED,
-    }
-}
-
-// The same, or a refusal.
-fn refused(counters: Counters, refusal: u32) -> Acted
-    ensures { result ≡ by_refusal counters refusal }
-{
-    Acted {
-        counters,
-        code: CodeDeque::Empty,
-        at: At::Nowhere,
+        at: None,
         refusal,
     }
 }
 
-// The same, with counters.
-fn released(released: Released) -> Acted
-    ensures { result ≡ by_release released }
+// An event that changes the state and tells nothing. The counters are kept, as in the two below.
+fn plain(counters: Counters, kept: &mut Counters) -> Acted
+    ensures value { result ≡ plainly }
+    ensures kept { kept.new ≡ counters }
 {
-    let counters = released.counters;
-    refused(counters, released.refusal)
+    *kept = counters;
+    refused(None)
+}
+
+// The same, or a refusal.
+fn released(released: Released, kept: &mut Counters) -> Acted
+    ensures value { result ≡ by_release released }
+    ensures kept { kept.new ≡ released.counters }
+{
+    *kept = released.counters;
+    refused(released.refusal)
 }
 
 // A mark tells its instructions and a place.
-fn marked(marked: Marked) -> Acted
-    ensures { result ≡ by_mark marked }
+fn marked(marked: Marked, kept: &mut Counters) -> Acted
+    ensures value { result ≡ by_mark marked }
+    ensures kept { kept.new ≡ marked.reached.counters }
 {
     let reached = marked.reached;
-    let counters = reached.counters;
     let code = reached.code;
     let place = marked.place;
+    *kept = reached.counters;
     Acted {
-        counters,
         code,
-        at: At::Place(place),
+        at: Some(place),
         refusal: reached.refusal,
     }
 }
 
-// Carries out a line that nothing refused before. How far the tables came is seen also where it is refused now.
-fn carry_out(
-    counters: Counters,
-    records: &mut Records,
-    use_sets: &mut UseSets,
-    use_counts: &mut UseCounts,
-    no_use: &mut RegisterSets,
-    conflict: &mut RegisterSets,
-    mappings: &mut Mappings,
-    freed_registers: &mut TempFreeList,
-    freed_slots: &mut PermFreeList,
-    branch_rows: &mut BranchRows,
-    branch_sets: &mut BranchSets,
-    event: Event,
-    list: &[u32],
-) -> Acted
-    ensures { answer_of records.new use_sets.new use_counts.new no_use.new conflict.new mappings.new freed_registers.new freed_slots.new branch_rows.new branch_sets.new result ≡ carried_out (state_of counters records.old use_sets.old use_counts.old no_use.old conflict.old mappings.old freed_registers.old freed_slots.old branch_rows.old branch_sets.old) event list.now }
+// Carries out a line that nothing refused before. How far the state came is seen also where it is refused now.
+fn carry_out(state: &mut State, event: Event, list: &[u32]) -> Acted
+    ensures { answer_of state.new result ≡ carried_out state.old event list.now }
 {
+    let State {
+        counters,
+        records,
+        sets,
+        mappings,
+        freed_registers,
+        freed_slots,
+        branches,
+    } = state;
     match event {
-        Event::Temp(context, occurrences) => released(clause_records::add_temp(
+        Event::Temp(context, occurrences) => released(
+            clause_records::add_temp(*counters, records, sets, context, occurrences, list),
             counters,
-            records,
-            use_sets,
-            use_counts,
-            no_use,
-            conflict,
-            context,
-            occurrences,
-            list,
-        )),
-        Event::Perm(occurrences) => released(clause_records::add_perm(
+        ),
+        Event::Perm(occurrences) => released(
+            clause_records::add_perm(*counters, records, sets, occurrences),
             counters,
-            records,
-            use_counts,
-            no_use,
-            conflict,
-            occurrences,
-        )),
+        ),
         Event::Sets => {
-            clause_records::populate(counters, records, use_sets, use_counts, no_use, conflict);
-            plain(counters)
+            clause_records::populate(*counters, records, sets);
+            refused(None)
         }
-        Event::Head => plain(resets::reset_at_head(counters, records, mappings, list)),
-        Event::Args(arity) => plain(resets::reset_arg(counters, arity)),
-        Event::Var(target, level, context, variable) => marked(mark_var::mark_var(
+        Event::Head => plain(
+            resets::reset_at_head(*counters, records, mappings, list),
             counters,
-            records,
-            mappings,
-            use_sets,
-            use_counts,
-            no_use,
-            conflict,
-            freed_slots,
-            branch_rows,
-            branch_sets,
-            Mark {
+        ),
+        Event::Args(arity) => plain(resets::reset_arg(*counters, arity), counters),
+        Event::Var(target, level, context, variable) => marked(
+            mark_var::mark_var(
+                *counters,
+                records,
+                mappings,
+                sets,
+                freed_slots,
+                branches,
+                Mark {
+                    target,
+                    level,
+                    context,
+                    variable,
+                },
+            ),
+            counters,
+        ),
+        Event::Anon(target, level, context) => marked(
+            other_marks::mark_anon_var(
+                *counters,
+                records,
+                mappings,
+                sets,
+                freed_registers,
                 target,
                 level,
                 context,
-                variable,
-            },
-        )),
-        Event::Anon(target, level, context) => marked(other_marks::mark_anon_var(
+            ),
             counters,
-            records,
-            mappings,
-            use_sets,
-            use_counts,
-            no_use,
-            conflict,
-            freed_registers,
-            target,
-            level,
-            context,
-        )),
-        Event::NonVar(level, context, cell) => marked(other_marks::mark_non_var(
-            counters,
-            records,
-            mappings,
-            use_sets,
-            use_counts,
-            no_use,
-            conflict,
-            freed_registers,
-            level,
-            context,
-            cell,
-        )),
-        Event::Cut(v, chunk) => marked(other_marks::mark_cut_var(
-            counters,
-            records,
-            freed_slots,
-            freed_registers,
-            v,
-            chunk,
-        )),
-        Event::Incr(v) => refused(counters, resets::increment_running_count(records, v)),
-        Event::Free(chunk, v) => released(freeing::free_var(
-            counters,
-            records,
-            freed_slots,
-            chunk,
-            v,
-        )),
-        Event::Safe(v) => {
-            let refusal = resets::mark_safe_var_unconditionally(
+        ),
+        Event::NonVar(level, context, cell) => marked(
+            other_marks::mark_non_var(
+                *counters,
                 records,
-                branch_rows,
-                counters.open_branches,
-                v,
-            );
-            refused(counters, refusal)
-        }
-        Event::Give(r) => released(resets::add_reg_to_free_list(counters, freed_registers, r)),
-        Event::Tail(tail) => plain(resets::set_tail_position(counters, tail)),
-        Event::Next => plain(resets::advance_arg(counters)),
-        Event::Open(start, span, arms) => released(branch_events::open(
+                mappings,
+                sets,
+                freed_registers,
+                level,
+                context,
+                cell,
+            ),
             counters,
-            branch_rows,
-            branch_sets,
-            start,
-            span,
-            arms,
-        )),
-        Event::Arm(start, span) => released(branch_events::arm(
+        ),
+        Event::Cut(v, chunk) => marked(
+            other_marks::mark_cut_var(*counters, records, freed_slots, freed_registers, v, chunk),
             counters,
-            branch_rows,
-            branch_sets,
-            start,
-            span,
-        )),
-        Event::Take => released(branch_events::take(counters, records, branch_rows, branch_sets)),
-        Event::Close(depth) => released(branch_events::close(
+        ),
+        Event::Incr(v) => refused(resets::increment_running_count(records, v)),
+        Event::Free(chunk, v) => released(
+            freeing::free_var(*counters, records, freed_slots, chunk, v),
             counters,
+        ),
+        Event::Safe(v) => refused(resets::mark_safe_var_unconditionally(
             records,
-            branch_rows,
-            branch_sets,
-            depth,
-            list,
+            branches,
+            counters.open_branches,
+            v,
         )),
-        Event::Reset => plain(resets::reset(counters, mappings)),
-        Event::Contents => plain(resets::reset_contents(counters, mappings)),
-        Event::ClearFree => plain(resets::reset_free_list(counters)),
+        Event::Give(r) => released(
+            resets::add_reg_to_free_list(*counters, freed_registers, r),
+            counters,
+        ),
+        Event::Tail(tail) => plain(resets::set_tail_position(*counters, tail), counters),
+        Event::Next => plain(resets::advance_arg(*counters), counters),
+        Event::Open(start, span, arms) => released(
+            branch_events::open(*counters, branches, start, span, arms),
+            counters,
+        ),
+        Event::Arm(start, span) => released(
+            branch_events::arm(*counters, branches, start, span),
+            counters,
+        ),
+        Event::Take => released(branch_events::take(*counters, records, branches), counters),
+        Event::Close(depth) => released(
+            branch_events::close(*counters, records, branches, depth, list),
+            counters,
+        ),
+        Event::Reset => plain(resets::reset(*counters, mappings), counters),
+        Event::Contents => plain(resets::reset_contents(*counters, mappings), counters),
+        Event::ClearFree => plain(resets::reset_free_list(*counters), counters),
     }
 }
 
 // After an event no record can follow.
-fn seen(acted: Acted, event: Event) -> Acted
-    ensures { result ≡ seen_after acted event }
+fn see(counters: &mut Counters, event: Event)
+    ensures { counters.new ≡ seen_after counters.old event }
 {
-    if events::is_record(event) {
-        return acted;
+    if !events::is_record(event) {
+        counters.events_seen = 1;
     }
-    let mut after = acted;
-    after.counters.events_seen = 1;
-    after
 }
 
-// A line, over tables that are lent.
-pub fn act(
-    counters: Counters,
-    records: &mut Records,
-    use_sets: &mut UseSets,
-    use_counts: &mut UseCounts,
-    no_use: &mut RegisterSets,
-    conflict: &mut RegisterSets,
-    mappings: &mut Mappings,
-    freed_registers: &mut TempFreeList,
-    freed_slots: &mut PermFreeList,
-    branch_rows: &mut BranchRows,
-    branch_sets: &mut BranchSets,
-    event: Event,
-    list: &[u32],
-) -> Acted
-    ensures { answer_of records.new use_sets.new use_counts.new no_use.new conflict.new mappings.new freed_registers.new freed_slots.new branch_rows.new branch_sets.new result ≡ acted (state_of counters records.old use_sets.old use_counts.old no_use.old conflict.old mappings.old freed_registers.old freed_slots.old branch_rows.old branch_sets.old) event list.now }
+// A line, over a state that is lent.
+pub fn act(state: &mut State, event: Event, list: &[u32]) -> Acted
+    ensures { answer_of state.new result ≡ acted state.old event list.now }
 {
-    let refusal = events::refusal_before(counters, event, list);
-    if 0 < refusal {
-        return refused(counters, refusal);
+    let refusal = events::refusal_before(state.counters, event, list);
+    if refusal.is_some() {
+        return refused(refusal);
     }
-    let carried = carry_out(
-        counters,
-        records,
-        use_sets,
-        use_counts,
-        no_use,
-        conflict,
-        mappings,
-        freed_registers,
-        freed_slots,
-        branch_rows,
-        branch_sets,
-        event,
-        list,
-    );
-    seen(carried, event)
+    let carried = carry_out(state, event, list);
+    see(&mut state.counters, event);
+    carried
 }

@@ -1,5 +1,5 @@
 -- The choice of a register for a variable by its sets, and the evacuation of a register.
-use Rattle.std.specs.Prelude.{ℕ, not, List, eqb, leb}
+use Rattle.std.specs.Prelude.{Option, Some, None, ℕ, not, List, eqb, leb}
 use Rattle.std.specs.Prelude.{if◌then◌else◌}
 use Rattle.sizes.specs.Sizes.{variables}
 use Rattle.refusals.specs.Refusals.{accepted, refused_register}
@@ -13,51 +13,39 @@ use Rattle.variable_records.specs.Rows.{record_at, record_put, is_temporary}
 use Rattle.shallow_temp_mappings.specs.Mappings.{unmapped, mapped_at, mapped_with}
 use Rattle.temp_var_data.specs.Uses.{uses_of, contains_use, use_code, last_context}
 use Rattle.register_sets.specs.RegisterSets.{set_at}
+use Rattle.restricting_sets.specs.declared.VariableSets.{VariableSets}
 use Rattle.allocator_state.specs.declared.Counters.{Counters}
 use Rattle.allocator_state.specs.Counters.{with_in_use}
-use Rattle.choice.specs.declared.Chosen.{Chosen}
-use Rattle.choice.specs.declared.Chosen.TheVariants.{Register, NoRegister}
 use Rattle.choice.specs.Choice.{chosen}
 use Rattle.evacuation.specs.declared.Hint.{Hint}
 use Rattle.evacuation.specs.declared.Hint.TheVariants.{Stays, Moves, NoRegister as Nowhere}
 use Rattle.evacuation.specs.declared.Reached.{Reached}
 
 -- rule 8.3: the no_use_lem set is avoided
-abbrev pub alloc_with_cr : Counters → List ℕ → List ℕ → List ℕ → ℕ → Chosen
-alloc_with_cr c use_sets use_counts no_use v = chosen c (uses_of use_sets use_counts v) (set_at no_use v)
+abbrev pub alloc_with_cr : Counters → VariableSets → ℕ → Option ℕ
+alloc_with_cr c s v = chosen c (uses_of s.use_sets s.use_counts v) (set_at s.no_use v)
 
 -- rule 8.3, apart: the conflict set is avoided, too
-abbrev pub alloc_with_ca : Counters → List ℕ → List ℕ → List ℕ → List ℕ → ℕ → Chosen
-alloc_with_ca c use_sets use_counts no_use conflict v =
-    chosen c (uses_of use_sets use_counts v) (union (set_at no_use v) (set_at conflict v))
+abbrev pub alloc_with_ca : Counters → VariableSets → ℕ → Option ℕ
+alloc_with_ca c s v =
+    chosen c (uses_of s.use_sets s.use_counts v) (union (set_at s.no_use v) (set_at s.conflict v))
 
 -- ---- Evacuation
 
--- the use sets and what follows from them
-pub record Sets : Type 0 where
-  pub use_sets : List ℕ
-  pub use_counts : List ℕ
-  pub no_use : List ℕ
-  pub conflict : List ℕ
-
-abbrev pub sets : List ℕ → List ℕ → List ℕ → List ℕ → Sets
-sets use_sets use_counts no_use conflict =
-    record { use_sets = use_sets; use_counts = use_counts; no_use = no_use; conflict = conflict }
-
-abbrev pub hint_to : ℕ → Chosen → Hint
-hint_to v (Register r) = Moves v r
-hint_to v NoRegister = Nowhere
+abbrev pub hint_to : ℕ → Option ℕ → Hint
+hint_to v (Some r) = Moves v r
+hint_to v None = Nowhere
 
 -- rules 9.1, 9.2: a temporary that is mapped to k and has no use of k in the chunk's last goal leaves it, for a register that
 -- is chosen apart
-unfoldable pub hint : Counters → List ℕ → List ℕ → Sets → ℕ → Hint
+unfoldable pub hint : Counters → List ℕ → List ℕ → VariableSets → ℕ → Hint
 hint c records mappings s chunk =
     let k = c.arg_c in
     let v = mapped_at mappings k in
     if leb variables v then Stays
     else if not (is_temporary records v) then Stays
     else if contains_use (uses_of s.use_sets s.use_counts v) (use_code (last_context chunk) k) then Stays
-    else hint_to v (alloc_with_ca c s.use_sets s.use_counts s.no_use s.conflict v)
+    else hint_to v (alloc_with_ca c s v)
 
 -- what an evacuation leaves: the tables that it may change, and how far the event has come
 pub record Evacuation : Type 0 where
@@ -94,5 +82,5 @@ evacuated_by Nowhere c records mappings code = evacuation records mappings (no_r
 evacuated_by (Moves v r) c records mappings code =
     if eqb r c.arg_c then evacuation records mappings (going_on c code) else moved_to c records mappings code v r
 
-unfoldable pub evacuated : Counters → List ℕ → List ℕ → Sets → ℕ → CodeDeque → Evacuation
+unfoldable pub evacuated : Counters → List ℕ → List ℕ → VariableSets → ℕ → CodeDeque → Evacuation
 evacuated c records mappings s chunk code = evacuated_by (hint c records mappings s chunk) c records mappings code

@@ -5,7 +5,6 @@ ghost use Rattle.std.specs.Prelude.{◌≡◌};
 ghost use Rattle.evacuation.specs.Evacuation.{
   alloc_with_cr,
   alloc_with_ca,
-  sets,
   hint,
   evacuation,
   moved_to,
@@ -14,49 +13,35 @@ ghost use Rattle.evacuation.specs.Evacuation.{
 };
 
 use allocator_state::Counters;
-use choice::Chosen;
 use code_deque::CodeDeque;
-use register_sets::RegisterSets;
+use refusals::Refusal;
 use registers::RegType;
+use restricting_sets::VariableSets;
 use shallow_temp_mappings::Mappings;
-use sizes::VARIABLES;
-use temp_var_data::{UseCounts, UseSets};
 use variable_records::Records;
 
 // The register for a variable that may take one of its conflict set.
-pub fn alloc_with_cr(
-    counters: Counters,
-    use_sets: &UseSets,
-    use_counts: &UseCounts,
-    no_use: &RegisterSets,
-    v: u32,
-) -> Chosen
-    ensures { result ≡ alloc_with_cr counters use_sets.now use_counts.now no_use.now v }
+pub fn alloc_with_cr(counters: Counters, sets: &VariableSets, v: u32) -> Option<u32>
+    ensures { result ≡ alloc_with_cr counters sets.now v }
 {
-    let use_set = temp_var_data::uses_of(use_sets, use_counts, v);
-    choice::choose(counters, use_set, register_sets::load(no_use, v))
+    let use_set = temp_var_data::uses_of(&sets.use_sets, &sets.use_counts, v);
+    choice::choose(counters, use_set, register_sets::load(&sets.no_use, v))
 }
 
 // The register for a variable that avoids its conflict set too.
-pub fn alloc_with_ca(
-    counters: Counters,
-    use_sets: &UseSets,
-    use_counts: &UseCounts,
-    no_use: &RegisterSets,
-    conflict: &RegisterSets,
-    v: u32,
-) -> Chosen
-    ensures { result ≡ alloc_with_ca counters use_sets.now use_counts.now no_use.now conflict.now v }
+pub fn alloc_with_ca(counters: Counters, sets: &VariableSets, v: u32) -> Option<u32>
+    ensures { result ≡ alloc_with_ca counters sets.now v }
 {
-    let use_set = temp_var_data::uses_of(use_sets, use_counts, v);
+    let use_set = temp_var_data::uses_of(&sets.use_sets, &sets.use_counts, v);
     let avoided = bit_set::union_with(
-        register_sets::load(no_use, v),
-        register_sets::load(conflict, v),
+        register_sets::load(&sets.no_use, v),
+        register_sets::load(&sets.conflict, v),
     );
     choice::choose(counters, use_set, avoided)
 }
 
 // What is to become of the variable in the argument's register.
+// Three outcomes, each by its name: as a `Result` of an `Option` of a move, staying would be `Ok(None)`.
 #[derive(Clone, Copy)]
 pub enum Hint {
     Stays,
@@ -69,38 +54,35 @@ pub fn alloc_in_last_goal_hint(
     counters: Counters,
     records: &Records,
     mappings: &Mappings,
-    use_sets: &UseSets,
-    use_counts: &UseCounts,
-    no_use: &RegisterSets,
-    conflict: &RegisterSets,
+    sets: &VariableSets,
     chunk: u32,
 ) -> Hint
-    ensures { result ≡ hint counters records.now mappings.now (sets use_sets.now use_counts.now no_use.now conflict.now) chunk }
+    ensures { result ≡ hint counters records.now mappings.now sets.now chunk }
 {
     let k = counters.arg_c;
-    let v = shallow_temp_mappings::get(mappings, k);
-    if VARIABLES as u32 <= v {
+    let Some(v) = shallow_temp_mappings::get(mappings, k) else {
         return Hint::Stays;
-    }
+    };
     if !variable_records::is_temporary(records, v) {
         return Hint::Stays;
     }
-    if temp_var_data::contains_use(use_sets, use_counts, v, temp_var_data::last_use(chunk, k)) {
+    let here = temp_var_data::last_use(chunk, k);
+    if temp_var_data::contains_use(&sets.use_sets, &sets.use_counts, v, here) {
         return Hint::Stays;
     }
-    let to = alloc_with_ca(counters, use_sets, use_counts, no_use, conflict, v);
-    match to {
-        Chosen::Register(r) => Hint::Moves(v, r),
-        Chosen::NoRegister => Hint::NoRegister,
+    match alloc_with_ca(counters, sets, v) {
+        Some(r) => Hint::Moves(v, r),
+        None => Hint::NoRegister,
     }
 }
 
-// How far an event has come: its counters and instructions, and its refusal, none as yet where it goes on.
+// How far an event has come: its counters and instructions, and its refusal, none as yet where it goes on. A struct and no
+// Result, since a refused event tells them, too.
 #[derive(Clone, Copy)]
 pub struct Reached {
     pub counters: Counters,
     pub code: CodeDeque,
-    pub refusal: u32,
+    pub refusal: Option<Refusal>,
 }
 
 // Moves a variable's value from the argument's register to another.
@@ -119,12 +101,14 @@ fn move_to(
     shallow_temp_mappings::insert(mappings, r, v);
     let variable = variable_records::load(records, v);
     variable_records::store(records, v, variable.set_register(r));
-    let mut moved = counters;
-    moved.in_use = bit_set::insert(counters.in_use, r);
+    let moved = Counters {
+        in_use: bit_set::insert(counters.in_use, r),
+        ..counters
+    };
     Reached {
         counters: moved,
         code: code_deque::push_back(code, targets::move_to_register(RegType::Temp(r), k)),
-        refusal: refusals::ACCEPTED,
+        refusal: None,
     }
 }
 
@@ -133,24 +117,19 @@ pub fn evacuate_arg(
     counters: Counters,
     records: &mut Records,
     mappings: &mut Mappings,
-    use_sets: &UseSets,
-    use_counts: &UseCounts,
-    no_use: &RegisterSets,
-    conflict: &RegisterSets,
+    sets: &VariableSets,
     chunk: u32,
     code: CodeDeque,
 ) -> Reached
-    ensures { evacuation records.new mappings.new result ≡ evacuated counters records.old mappings.old (sets use_sets.now use_counts.now no_use.now conflict.now) chunk code }
+    ensures { evacuation records.new mappings.new result ≡ evacuated counters records.old mappings.old sets.now chunk code }
 {
-    let to = alloc_in_last_goal_hint(
-        counters, records, mappings, use_sets, use_counts, no_use, conflict, chunk,
-    );
+    let to = alloc_in_last_goal_hint(counters, records, mappings, sets, chunk);
     match to {
         Hint::Stays => going(counters, code),
         Hint::NoRegister => Reached {
             counters,
             code,
-            refusal: refusals::REGISTER,
+            refusal: Some(Refusal::Register),
         },
         Hint::Moves(v, r) => {
             if r == counters.arg_c {
@@ -168,6 +147,6 @@ pub fn going(counters: Counters, code: CodeDeque) -> Reached
     Reached {
         counters,
         code,
-        refusal: refusals::ACCEPTED,
+        refusal: None,
     }
 }

@@ -1,5 +1,5 @@
 -- Laws of a call: the line, the state and the room, and the text that is made aside.
-use Rattle.std.specs.Prelude.{ℕ, ◌+◌, ◌≤◌, ◌<◌, ◌≡◌, refl, true, false, eqb}
+use Rattle.std.specs.Prelude.{ℕ, ◌+◌, ◌≤◌, ◌<◌, ◌≡◌, refl, true, false, eqb, Ok, Some, None}
 use Rattle.std.proofs.Math.Path.{ap, sym}
 use Rattle.std.proofs.Common.{ap₂, ◌∙◌, arith, length-take, take_all}
 use mathlib.Core.List.{List, [], ◌∷◌, ◌++◌}
@@ -7,15 +7,16 @@ use Rattle.std.proofs.Math.Nat.{zero-add}
 use Rattle.std.proofs.Math.ListN.{length, take, drop, length-append, length-drop, drop_of_length-le}
 use borrow.Author.Tests.{le-leb, lt-ltb, le-ltb}
 use Rattle.std.specs.Prelude.{if◌then◌else◌}
-use Rattle.refusals.specs.Refusals.{refused_form, refused_size, refused_full, refused_room}
+use Rattle.refusals.specs.declared.Refusal.{Refusal}
+use Rattle.refusals.specs.declared.Refusal.TheVariants.{Size, Full, Room}
+use Rattle.refusals.specs.Refusals.{accepted, refused_form}
 use Rattle.sizes.specs.Sizes.{sheet_bytes}
 use Rattle.split.specs.Split.{line_feed, before, after, split, in_front}
 use Rattle.split.specs.SplitLaws.{split-last, split_more, split-some, take-before, drop-before}
 use Rattle.printing.specs.Printing.{printed, place_after, Put}
 use Rattle.printing.specs.PrintingLaws.{printed-length}
 use Rattle.events.specs.declared.Event.{Event}
-use Rattle.event_lines.specs.declared.Line.{Line}
-use Rattle.event_lines.specs.declared.Line.TheVariants.{Malformed, Says}
+use Rattle.event_lines.specs.LineForms.{Line, saying}
 use Rattle.event_lines.specs.EventLines.{line_says, line_list}
 use Rattle.event_lines.specs.EventLinesLaws.{list_read}
 use Rattle.debray_allocator.specs.declared.State.{State}
@@ -23,9 +24,7 @@ use Rattle.debray_allocator.specs.declared.Answer.{Answer}
 use Rattle.debray_allocator.specs.DebrayAllocator.{refused_with, stepped}
 use Rattle.answers.specs.Answers.{text_of, end_text}
 use Rattle.answers.specs.AnswersLaws.{longest, text_short, end_short, added}
-use Rattle.answered.specs.declared.Answered.{Answered}
-use Rattle.answered.specs.declared.Answered.TheVariants.{Written, Refused}
-use Rattle.answered.specs.Answered.{filled_by}
+use Rattle.answered.specs.Answered.{Answered, refused, filled_by}
 use Rattle.event_sheets.specs.EventSheets.{max_reg_allocated, num_perm_vars, ended, said_answer, line_answer, answered_by}
 use Rattle.valid_states.specs.ValidStates.{is_valid}
 use Rattle.event_calls.specs.declared.Called.{Called}
@@ -35,12 +34,12 @@ use Rattle.event_calls.specs.EventCalls.{parts_answer, bytes_answer, refused_cal
 
 module _ (line : List ℕ) {said : Line} (e : said ≡ line_says line) where
   pub line-malformed :
-      (s : State) {a : Answer} → said ≡ Malformed → a ≡ refused_with s refused_form → a ≡ line_answer s line
+      (s : State) {a : Answer} → said ≡ None → a ≡ refused_with s refused_form → a ≡ line_answer s line
   unfolding line_answer
   line-malformed s m refused = refused ∙ sym (ap (λ l. said_answer s l (line_list line)) (sym e ∙ m))
 
   module _
-      (list : List ℕ) {event : Event} {count : ℕ} {read : List ℕ} (m : said ≡ Says event count)
+      (list : List ℕ) {event : Event} {count : ℕ} {read : List ℕ} (m : said ≡ saying event count)
       (room : length (line_list line) ≤ length list) (told : read ≡ printed list 0 (line_list line)) where
     entries-read : (take count (printed list 0 (line_list line)) ≡ line_list line) × (count ≡ length (line_list line))
     entries-read = list_read line list event count room (sym e ∙ m)
@@ -137,28 +136,28 @@ module _
 -- ---- The answer to a call
 
 module _ (s : State) (a : Answer) (room : ℕ) where
-  pub by-refused : 0 < a.refusal → called_by s a room ≡ refused_call s 1 a.refusal
+  pub by-refused : {refusal : Refusal} → a.refusal ≡ Some refusal → called_by s a room ≡ refused_call s 1 refusal
   unfolding called_by
-  by-refused h = simp (lt-ltb _ _ h)
+  by-refused h = simp h
 
-  module _ (good : a.refusal ≤ 0) where
-    by_longer : room < length (text_of a) → called_by s a room ≡ refused_call s 0 refused_room
+  module _ (good : a.refusal ≡ accepted) where
+    by_longer : room < length (text_of a) → called_by s a room ≡ refused_call s 0 Room
     unfolding called_by
-    by_longer h = simp (le-ltb _ _ good, lt-ltb _ _ h)
+    by_longer h = simp (good, lt-ltb _ _ h)
 
     pub by_written :
         length (text_of a) ≤ room
-        → called_by s a room ≡ record { state = a.state; answered = Written (length (text_of a)) }
+        → called_by s a room ≡ record { state = a.state; answered = Ok (length (text_of a)) }
     unfolding called_by
-    by_written h = simp (le-ltb _ _ good, le-ltb _ _ h)
+    by_written h = simp (good, le-ltb _ _ h)
 
 module _ (s : State) (bytes : List ℕ) (room : ℕ) where
-  called_invalid : is_valid s ≡ false → called s bytes room ≡ refused_call s 0 refused_size
+  called_invalid : is_valid s ≡ false → called s bytes room ≡ refused_call s 0 Size
   unfolding called
   called_invalid h = simp h
 
   module _ (valid : is_valid s ≡ true) where
-    called_long : sheet_bytes < length bytes → called s bytes room ≡ refused_call s 0 refused_full
+    called_long : sheet_bytes < length bytes → called s bytes room ≡ refused_call s 0 Full
     unfolding called
     called_long h = simp (valid, lt-ltb _ _ h)
 
@@ -176,21 +175,21 @@ module _ (s : State) (bytes out : List ℕ) where
   call_by e f = (e, f ∙ ap (λ r. filled_by r.answered (text_of (bytes_answer s bytes)) out) e)
 
   untouched :
-      {r : Called} (line refusal : ℕ) → r ≡ refused_call s line refusal → called s bytes (length out) ≡ refused_call s line refusal
+      {r : Called} (line : ℕ) (refusal : Refusal) → r ≡ refused_call s line refusal → called s bytes (length out) ≡ refused_call s line refusal
       → (r ≡ called s bytes (length out)) × (out ≡ call_filled s bytes out)
   untouched line refusal e w = call_by (e ∙ sym w) (ap (λ r. filled_by r.answered (text_of (bytes_answer s bytes)) out) (sym e))
 
   -- the state first
   pub call_invalid :
-      {r : Called} → is_valid s ≡ false → r ≡ refused_call s 0 refused_size
+      {r : Called} → is_valid s ≡ false → r ≡ refused_call s 0 Size
       → (r ≡ called s bytes (length out)) × (out ≡ call_filled s bytes out)
-  call_invalid h e = untouched 0 refused_size e (called_invalid s bytes (length out) h)
+  call_invalid h e = untouched 0 Size e (called_invalid s bytes (length out) h)
 
   -- then the length
   pub call_long :
-      {r : Called} → is_valid s ≡ true → sheet_bytes < length bytes → r ≡ refused_call s 0 refused_full
+      {r : Called} → is_valid s ≡ true → sheet_bytes < length bytes → r ≡ refused_call s 0 Full
       → (r ≡ called s bytes (length out)) × (out ≡ call_filled s bytes out)
-  call_long valid h e = untouched 0 refused_full e (called_long s bytes (length out) valid h)
+  call_long valid h e = untouched 0 Full e (called_long s bytes (length out) valid h)
 
   module _
       (valid : is_valid s ≡ true) (short : length bytes ≤ sheet_bytes) {a : Answer} (made : a ≡ bytes_answer s bytes) where
@@ -199,30 +198,30 @@ module _ (s : State) (bytes out : List ℕ) where
 
     -- then the line
     pub call-refused :
-        {r : Called} → 0 < a.refusal → r ≡ refused_call s 1 a.refusal
+        {r : Called} {refusal : Refusal} → a.refusal ≡ Some refusal → r ≡ refused_call s 1 refusal
         → (r ≡ called s bytes (length out)) × (out ≡ call_filled s bytes out)
-    call-refused h e = untouched 1 a.refusal e (called_by_lem ∙ by-refused s a (length out) h)
+    call-refused {refusal = refusal} h e = untouched 1 refusal e (called_by_lem ∙ by-refused s a (length out) h)
 
     module _
         {aside kept : List ℕ} {count : ℕ}
-        (good : a.refusal ≤ 0) (scratch : length aside ≡ longest) (put : Put aside 0 (text_of a) count kept) where
+        (good : a.refusal ≡ accepted) (scratch : length aside ≡ longest) (put : Put aside 0 (text_of a) count kept) where
       fits : length (text_of a) ≤ length aside
       fits = omega (arith, scratch, text_short a)
 
       -- room last
       pub call_longer :
-          {r : Called} → length out < count → r ≡ refused_call s 0 refused_room
+          {r : Called} → length out < count → r ≡ refused_call s 0 Room
           → (r ≡ called s bytes (length out)) × (out ≡ call_filled s bytes out)
-      call_longer h e = untouched 0 refused_room e (called_by_lem ∙ by_longer s a (length out) good (omega (arith, counted fits put)))
+      call_longer h e = untouched 0 Room e (called_by_lem ∙ by_longer s a (length out) good (omega (arith, counted fits put)))
 
       pub call-written :
           {r : Called} {copy after : List ℕ} {next : ℕ} → count ≤ length out → copy ≡ take count kept
           → Put out 0 copy next after
-          → r ≡ record { state = a.state; answered = Written count }
+          → r ≡ record { state = a.state; answered = Ok count }
           → (r ≡ called s bytes (length out)) × (after ≡ call_filled s bytes out)
       call-written h taken copy e =
           let n = counted fits put in
-          let w = e ∙ ap (λ (n : ℕ). record { state = a.state; answered = Written n }) n in
+          let w = e ∙ ap (λ (n : ℕ). record { state = a.state; answered = Ok n }) n in
           call_by
           (w ∙ sym (called_by_lem ∙ by_written s a (length out) good (omega (arith, n))))
           (copied fits put h taken copy
@@ -239,22 +238,22 @@ unfolding last_filled
 last-by s out e f = (e, f ∙ ap (λ r. filled_by r (ended s.counters).text out) e)
 
 module _ (s : State) (out : List ℕ) where
-  last-refused : is_valid s ≡ false → Refused 0 refused_size ≡ last_answered s (length out)
+  last-refused : is_valid s ≡ false → refused 0 Size ≡ last_answered s (length out)
   unfolding last_answered
   last-refused h = simp h
 
   pub last_invalid :
-      is_valid s ≡ false → (Refused 0 refused_size ≡ last_answered s (length out)) × (out ≡ last_filled s out)
+      is_valid s ≡ false → (refused 0 Size ≡ last_answered s (length out)) × (out ≡ last_filled s out)
   last_invalid h = last-by s out (last-refused h) (refl)
 
   module _ (valid : is_valid s ≡ true) where
-    last-wide : length out < length (ended s.counters).text → Refused 0 refused_room ≡ last_answered s (length out)
+    last-wide : length out < length (ended s.counters).text → refused 0 Room ≡ last_answered s (length out)
     unfolding last_answered answered_by
     last-wide h = simp (valid, lt-ltb _ _ h)
 
     pub last_fits :
         length (ended s.counters).text ≤ length out
-        → Written (length (ended s.counters).text) ≡ last_answered s (length out)
+        → Ok (length (ended s.counters).text) ≡ last_answered s (length out)
     unfolding last_answered answered_by
     last_fits h = simp (valid, le-ltb _ _ h)
 
@@ -272,14 +271,14 @@ module _ (s : State) (out : List ℕ) where
       length-is = counted room put ∙ ap length text
 
       pub last_longer :
-          length out < count → (Refused 0 refused_room ≡ last_answered s (length out)) × (out ≡ last_filled s out)
+          length out < count → (refused 0 Room ≡ last_answered s (length out)) × (out ≡ last_filled s out)
       last_longer h = last-by s out (last-wide (omega (arith, length-is))) refl
 
       pub last_written :
           {copy after : List ℕ} {next : ℕ} → count ≤ length out → copy ≡ take count kept → Put out 0 copy next after
-          → (Written count ≡ last_answered s (length out)) × (after ≡ last_filled s out)
+          → (Ok count ≡ last_answered s (length out)) × (after ≡ last_filled s out)
       last_written h taken copy =
           last-by s out
-          (ap Written length-is ∙ last_fits (omega (arith, length-is)))
+          (ap Ok length-is ∙ last_fits (omega (arith, length-is)))
           (copied room put h taken copy
           ∙ ap₂ (λ (k : ℕ) t. t ++ drop k out) (sym (counted room put)) text)

@@ -1,13 +1,12 @@
 -- A sheet fed line by line: a host keeps the state, lends its bytes to one call after the other and gathers what is written.
-use Rattle.std.specs.Prelude.{ℕ, suc, Bool, true, ◌&&◌, List, [], ◌∷◌, ◌++◌, leb, length, take}
+use Rattle.std.specs.Prelude.{ℕ, suc, Bool, true, ◌&&◌, List, [], ◌∷◌, ◌++◌, leb, length, take, Ok, Err, Some}
 use Rattle.std.specs.Prelude.{if◌then◌else◌}
 use Rattle.refusals.specs.Refusals.{accepted}
 use Rattle.sizes.specs.Sizes.{sheet_bytes}
 use Rattle.split.specs.Split.{line_feed}
 use Rattle.debray_allocator.specs.declared.State.{State}
 use Rattle.answers.specs.Answers.{text_of}
-use Rattle.answered.specs.declared.Answered.{Answered}
-use Rattle.answered.specs.declared.Answered.TheVariants.{Written, Refused}
+use Rattle.answered.specs.Answered.{Answered}
 use Rattle.event_sheets.specs.EventSheets.{Ran, refused_at, behind, ended, line_answer}
 use Rattle.valid_states.specs.ValidStates.{is_valid}
 use Rattle.event_calls.specs.EventCalls.{called, call_filled, last_answered, last_filled}
@@ -22,8 +21,8 @@ line_in number line = if leb line 0 then 0 else number
 
 -- what was written stands before what follows; a refusal ends the sheet
 abbrev pub gathered : ℕ → Answered → List ℕ → Ran → Ran
-gathered number (Written count) out later = behind (take count out) later
-gathered number (Refused line refusal) out later = refused_at (line_in number line) refusal
+gathered number (Ok count) out later = behind (take count out) later
+gathered number (Err told) out later = refused_at (line_in number told.line) (Some told.refusal)
 
 abbrev pub nothing_more : Ran
 nothing_more = record { text = []; line = 0; refusal = accepted }

@@ -1,12 +1,14 @@
 -- Rule 17.8: the whole sheet is the fold of the line call over its lines: the same text, the same refusal at the same line.
-use Rattle.std.specs.Prelude.{ℕ, suc, ◌≤◌, ◌<◌, ◌≡◌, true, false, eqb, leb, ltb, length}
+use Rattle.std.specs.Prelude.{ℕ, suc, ◌≤◌, ◌≡◌, true, false, eqb, leb, length, Option, Some, None}
 use Rattle.std.proofs.Math.Path.{refl, ap, ap₂}
-use Rattle.std.proofs.Common.{subst, sym, ◌∙◌, arith, length-append, length-drop, le-leb, leb-true, ltb-true, ltb-false}
+use Rattle.std.proofs.Common.{subst, sym, ◌∙◌, arith, length-append, length-drop, le-leb, leb-true}
 use mathlib.Core.List.{List, [], ◌∷◌, ◌++◌, append-nil}
 use Rattle.std.proofs.Math.ListN.{drop}
 use Rattle.std.proofs.Math.Seq.{take-append_seam}
 use Rattle.std.specs.Prelude.{if◌then◌else◌}
 use Rattle.notation.specs.ChoiceLaws.{both_true}
+use Rattle.refusals.specs.declared.Refusal.{Refusal}
+use Rattle.refusals.specs.Refusals.{accepted, is_refused}
 use Rattle.sizes.specs.Sizes.{sheet_bytes}
 use Rattle.split.specs.Split.{line_feed, split, in_front, joined}
 use Rattle.split.specs.SplitLaws.{split-some}
@@ -16,8 +18,7 @@ use Rattle.debray_allocator.specs.declared.State.{State}
 use Rattle.debray_allocator.specs.declared.Answer.{Answer}
 use Rattle.debray_allocator.specs.State.{fresh_state}
 use Rattle.debray_allocator.specs.DebrayAllocator.{refused_with, stepped}
-use Rattle.event_lines.specs.declared.Line.{Line}
-use Rattle.event_lines.specs.declared.Line.TheVariants.{Malformed, Says}
+use Rattle.event_lines.specs.LineForms.{Line}
 use Rattle.event_lines.specs.EventLines.{line_says, line_list}
 use Rattle.answers.specs.Answers.{text_of}
 use Rattle.answers.specs.AnswersLaws.{longest, text_short, end_short}
@@ -59,14 +60,14 @@ module _
   called-line = called_valid s (with_feed line) (length out) valid fits ∙ ap (λ a. called_by s a (length out)) (fed-answer s line alone)
 
   module _ (number : ℕ) (lines : List (List ℕ)) where
-    fed_bad : 0 < answer.refusal → fed s out number (line ∷ lines) ≡ refused_at number answer.refusal
+    fed_bad : {refusal : Refusal} → answer.refusal ≡ Some refusal → fed s out number (line ∷ lines) ≡ refused_at number (Some refusal)
     unfolding fed
     fed_bad h =
         ap (λ c. gathered number c.answered (call_filled s (with_feed line) out) (fed c.state (call_filled s (with_feed line) out) (suc number) lines))
         (called-line ∙ by-refused s answer (length out) h)
 
     fed_good :
-        answer.refusal ≤ 0 → length text ≤ length out
+        answer.refusal ≡ accepted → length text ≤ length out
         → fed s out number (line ∷ lines) ≡ behind text (fed answer.state (text ++ drop (length text) out) (suc number) lines)
     unfolding fed call_filled
     fed_good good short =
@@ -85,7 +86,7 @@ fed-end s out number valid short =
     let text = (ended s.counters).text in
     ap (λ a. gathered number a (filled_by a text out) nothing_more) (sym (last_fits s out valid short))
     ∙ ap (λ t. behind t nothing_more) (take-append_seam text (drop (length text) out))
-    ∙ ap (λ t. record { text = t; line = 0; refusal = 0 }) (append-nil text)
+    ∙ ap (λ t. record { text = t; line = 0; refusal = accepted }) (append-nil text)
 
 -- ---- All lines
 
@@ -121,13 +122,13 @@ fed-ran (line ∷ lines) s out number alone valid fit within =
     let short : length text ≤ length out = leb-true _ _ w.0 in
     let n : length (text ++ drop (length text) out) ≡ length out = omega (arith, length-append text (drop (length text) out), length-drop (length text) out) in
     let later = fed-ran lines a.state (text ++ drop (length text) out) (suc number) f.1 v.1 l.1 (rw n w.1) in
-    elim (ltb 0 a.refusal) as
-    (λ t. ltb 0 a.refusal ≡ t → fed s out number (line ∷ lines) ≡ ran s number (line ∷ (lines ++ ([] ∷ [])))) [
-      | true ↦ λ e. fed_bad s out line f.0 v.0 fits number lines (ltb-true _ _ e)
-          ∙ sym (ran_first s number line lines ∙ ran-refused number _ a (ltb-true _ _ e))
-      | false ↦ λ e. fed_good s out line f.0 v.0 fits number lines (ltb-false _ _ e) short
+    elim a.refusal as
+    (λ (r : Option Refusal). a.refusal ≡ r → fed s out number (line ∷ lines) ≡ ran s number (line ∷ (lines ++ ([] ∷ [])))) [
+      | Some refusal ↦ λ e. fed_bad s out line f.0 v.0 fits number lines e
+          ∙ sym (ran_first s number line lines ∙ ran-refused number _ a (ap is_refused e) ∙ ap (refused_at number) e)
+      | None ↦ λ e. fed_good s out line f.0 v.0 fits number lines e short
           ∙ ap (behind text) later
-          ∙ sym (ran_first s number line lines ∙ ran-accepted number _ a (ltb-false _ _ e))
+          ∙ sym (ran_first s number line lines ∙ ran-accepted number _ a (ap is_refused e))
     ]
     refl
 
@@ -219,8 +220,8 @@ module _
     (stays : (event : Event) (list : List ℕ) → P (stepped s event list).state) where
   said_keeps : (said : Line) (list : List ℕ) → P (said_answer s said list).state
   unfolding refused_with
-  said_keeps Malformed list = holds
-  said_keeps (Says event count) list = stays event list
+  said_keeps None list = holds
+  said_keeps (Some said) list = stays said.event list
 
   line_keeps : (line : List ℕ) → P (line_answer s line).state
   unfolding line_answer

@@ -16,11 +16,11 @@ ghost use Rattle.event_calls.specs.EventCalls.{
   last_filled,
 };
 
-use answered::Answered;
+use answered::{Answered, Refused};
 use answers::LONGEST;
 use code_deque::CodeDeque;
-use debray_allocator::{Answer, At, State};
-use event_lines::Line;
+use debray_allocator::{Answer, State};
+use refusals::Refusal;
 use sizes::SHEET_BYTES;
 use split::LINE_FEED;
 
@@ -41,8 +41,8 @@ fn malformed(state: State) -> Answer
     Answer {
         state,
         code: CodeDeque::Empty,
-        at: At::Nowhere,
-        refusal: refusals::FORM,
+        at: None,
+        refusal: Some(Refusal::Form),
     }
 }
 
@@ -51,10 +51,9 @@ fn step_read(state: State, line: &[u8], list: &mut [u32]) -> Answer
     requires { length (line_list line.now) ≤ length list.old }
     ensures { result ≡ line_answer state line.now }
 {
-    let said = event_lines::read_line(line, list);
-    match said {
-        Line::Malformed => malformed(state),
-        Line::Says(event, count) => state_step::step(state, event, &list[0..count]),
+    match event_lines::read_line(line, list) {
+        None => malformed(state),
+        Some(said) => state_step::step(state, said.event, &list[0..said.entries]),
     }
 }
 
@@ -87,12 +86,12 @@ fn step_bytes(state: State, bytes: &[u8]) -> Answer
 }
 
 // A refusal leaves the state as it was.
-fn refused(state: State, line: usize, refusal: u32) -> Called
+fn refused(state: State, line: usize, refusal: Refusal) -> Called
     ensures { result ≡ refused_call state line refusal }
 {
     Called {
         state,
-        answered: Answered::Refused(line, refusal),
+        answered: Err(Refused { line, refusal }),
     }
 }
 
@@ -103,14 +102,14 @@ pub fn call(state: State, line: &[u8], out: &mut [u8]) -> Called
     ensures out_after { out.new ≡ call_filled state line.now out.old }
 {
     if !valid_states::is_valid_state(state) {
-        return refused(state, 0, refusals::SIZE);
+        return refused(state, 0, Refusal::Size);
     }
     if SHEET_BYTES < line.len() {
-        return refused(state, 0, refusals::FULL);
+        return refused(state, 0, Refusal::Full);
     }
     let answer = step_bytes(state, line);
-    if 0 < answer.refusal {
-        return refused(state, 1, answer.refusal);
+    if let Some(refusal) = answer.refusal {
+        return refused(state, 1, refusal);
     }
     let after = answer.state;
     let code = answer.code;
@@ -118,12 +117,12 @@ pub fn call(state: State, line: &[u8], out: &mut [u8]) -> Called
     let mut text = [0; LONGEST];
     let length = answers::put_answer(&mut text[..], 0, code, at);
     if out.len() < length {
-        return refused(state, 0, refusals::ROOM);
+        return refused(state, 0, Refusal::Room);
     }
     printing::put_word(out, 0, split::part_before(&text[..], length));
     Called {
         state: after,
-        answered: Answered::Written(length),
+        answered: Ok(length),
     }
 }
 
@@ -133,7 +132,10 @@ pub fn put_last(state: State, out: &mut [u8]) -> Answered
     ensures out_after { out.new ≡ last_filled state out.old }
 {
     if !valid_states::is_valid_state(state) {
-        return Answered::Refused(0, refusals::SIZE);
+        return Err(Refused {
+            line: 0,
+            refusal: Refusal::Size,
+        });
     }
     let counters = state.counters;
     let registers = event_sheets::max_reg_allocated(counters);
@@ -141,8 +143,11 @@ pub fn put_last(state: State, out: &mut [u8]) -> Answered
     let mut text = [0; LONGEST];
     let count = answers::put_end(&mut text[..], 0, registers, slots);
     if out.len() < count {
-        return Answered::Refused(0, refusals::ROOM);
+        return Err(Refused {
+            line: 0,
+            refusal: Refusal::Room,
+        });
     }
     printing::put_word(out, 0, split::part_before(&text[..], count));
-    Answered::Written(count)
+    Ok(count)
 }

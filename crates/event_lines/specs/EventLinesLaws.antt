@@ -1,7 +1,8 @@
 -- Laws of lines for who reads a sheet: where a line says something, the first entries of the list are the line's.
-use Rattle.std.specs.Prelude.{ℕ, suc, ◌+◌, ◌≤◌, ◌≡◌, refl, true, ◌&&◌, length, take, drop}
+use Rattle.std.specs.Prelude.{ℕ, suc, ◌+◌, ◌≤◌, ◌≡◌, refl, true, ◌&&◌, length, take, drop, Option, Some, None, is_some, option_and_then}
 use Rattle.std.proofs.Common.{zero-le, suc-le-suc, ap, sym, ◌∙◌, arith, length-append, take-take}
 use Rattle.std.proofs.lemmas.Bool.{false≢true}
+use Rattle.std.proofs.lemmas.Option.{same_Some}
 use mathlib.Core.List.{List, [], ◌∷◌, ◌++◌}
 use Rattle.std.proofs.Math.Seq.{take-append_seam}
 use Rattle.notation.specs.ChoiceLaws.{either, by_test}
@@ -10,39 +11,29 @@ use Rattle.split.specs.Split.{tab, split, joined}
 use Rattle.split.specs.SplitLaws.{split_le}
 use Rattle.split.specs.SplitTrips.{joined-split}
 use Rattle.words.specs.Words.{same}
-use Rattle.numbers.specs.declared.Number.{Number}
-use Rattle.numbers.specs.declared.Number.TheVariants.{Of, Malformed as no_number}
-use Rattle.numbers.specs.Numbers.{number_of}
 use Rattle.printing.specs.Printing.{printed}
-use Rattle.forms.specs.declared.GenContext.{GenContext}
-use Rattle.forms.specs.declared.Level.{Level}
-use Rattle.targets.specs.declared.Target.{Target}
 use Rattle.events.specs.declared.Entries.{Entries}
 use Rattle.events.specs.declared.Entries.TheVariants.{Uses, Arguments, Variables}
 use Rattle.events.specs.declared.Event.{Event}
-use Rattle.event_fields.specs.declared.TargetField.{TargetField}
-use Rattle.event_fields.specs.declared.TargetField.TheVariants.{Of as of_target, Malformed as no_target}
-use Rattle.event_fields.specs.declared.LevelField.{LevelField}
-use Rattle.event_fields.specs.declared.LevelField.TheVariants.{Of as of_level, Malformed as no_level}
-use Rattle.event_fields.specs.declared.ContextField.{ContextField}
-use Rattle.event_fields.specs.declared.ContextField.TheVariants.{Of as of_context, Malformed as no_context}
-use Rattle.event_fields.specs.EventFields.{target_of, level_of, context_of, entry_of}
-use Rattle.event_lines.specs.declared.Line.{Line}
-use Rattle.event_lines.specs.declared.Line.TheVariants.{Malformed, Says}
-use Rattle.event_lines.specs.LineForms.{Form, end_says, end, field_says, field_and, if_number, if_target, if_level, if_context, number, target, level, context, is_entry, all_entries, list_says, in_front_of, leading, list, comma, uses_in, uses_say, uses_list, uses_field}
+use Rattle.event_fields.specs.EventFields.{entry_of}
+use Rattle.event_lines.specs.declared.Said.{Said}
+use Rattle.event_lines.specs.LineForms.{Line, saying, Form, end_says, end, field_says, field_and, number, target, level, context, all_entries, list_says, in_front_of, leading, list, comma, uses_in, uses_say, uses_list, uses_field}
 use Rattle.event_lines.specs.Words.{Word, word, line_words}
 use Rattle.event_lines.specs.EventLines.{word_among, fields_say, fields_list, line_says, line_list}
 use Rattle.event_lines.specs.WordsLaws.{Each, ◌&◌, among-each}
 
+entries_same : {event event' : Event} {k n : ℕ} → saying event k ≡ saying event' n → k ≡ n
+entries_same e = ap (λ (said : Said). said.entries) (same_Some _ _ e)
+
 -- whatever a line says, it counts so many entries
 abbrev Counts : Line → ℕ → Type 0
-Counts line k = (event : Event) (n : ℕ) → line ≡ Says event n → n ≡ k
+Counts line k = (event : Event) (n : ℕ) → line ≡ saying event n → n ≡ k
 
-never : (k : ℕ) → Counts Malformed k
+never : (k : ℕ) → Counts None k
 never k event n e = let z : ◌≡◌ {A = ℕ} 0 1 = cc in absurd (omega arith)
 
-says : (event : Event) (k : ℕ) → Counts (Says event k) k
-says event k event' n e = cc
+says : (event : Event) (k : ℕ) → Counts (saying event k) k
+says event k event' n e = sym (entries_same e)
 
 -- the bytes of the fields behind a word, each with the tab before it
 abbrev width : List (List ℕ) → ℕ
@@ -64,12 +55,16 @@ end-counts event (field ∷ fields) = never 0
 end-lists : Lists end
 end-lists = record { counts = end-counts; short = λ fields. zero-le }
 
-module _ {A B : Type 0} (read : List ℕ → (B → Line) → Line) (others : Form A) (lists : Lists others)
-    (reads : (field : List ℕ) (line : B → Line) (k : ℕ) → ((b : B) → Counts (line b) k) → Counts (read field line) k) where
+and_then-counts :
+    {B : Type 0} (o : Option B) (line : B → Line) (k : ℕ) → ((b : B) → Counts (line b) k) → Counts (option_and_then line o) k
+and_then-counts (Some b) line k p = p b
+and_then-counts None line k p = never k
+
+module _ {A B : Type 0} (read : List ℕ → Option B) (others : Form A) (lists : Lists others) where
   field-counts : (event : B → A) (fields : List (List ℕ)) → Counts (field_says read others event fields) (length ((field_and read others).entries fields))
   unfolding field_says
   field-counts event [] = never _
-  field-counts event (field ∷ fields) = reads field _ _ (λ b. lists.counts (event b) fields)
+  field-counts event (field ∷ fields) = and_then-counts (read field) _ _ (λ b. lists.counts (event b) fields)
 
   field_short : (fields : List (List ℕ)) → length ((field_and read others).entries fields) ≤ width fields
   field_short [] = lists.short []
@@ -78,34 +73,18 @@ module _ {A B : Type 0} (read : List ℕ → (B → Line) → Line) (others : Fo
   field-lists : Lists (field_and read others)
   field-lists = record { counts = field-counts; short = field_short }
 
-if_number_lem : (m : Number) (line : ℕ → Line) (k : ℕ) → ((n : ℕ) → Counts (line n) k) → Counts (if_number m line) k
-if_number_lem (Of n) line k p = p n
-if_number_lem no_number line k p = never k
-
-if_target_lem : (m : TargetField) (line : Target → Line) (k : ℕ) → ((t : Target) → Counts (line t) k) → Counts (if_target m line) k
-if_target_lem (of_target t) line k p = p t
-if_target_lem no_target line k p = never k
-
-if_level_lem : (m : LevelField) (line : Level → Line) (k : ℕ) → ((l : Level) → Counts (line l) k) → Counts (if_level m line) k
-if_level_lem (of_level l) line k p = p l
-if_level_lem no_level line k p = never k
-
-if_context_lem : (m : ContextField) (line : GenContext → Line) (k : ℕ) → ((c : GenContext) → Counts (line c) k) → Counts (if_context m line) k
-if_context_lem (of_context c) line k p = p c
-if_context_lem no_context line k p = never k
-
 module _ {A : Type 0} {others : Form A} (lists : Lists others) where
   number-lists : Lists (number others)
-  number-lists = field-lists _ others lists (λ field. if_number_lem (number_of field))
+  number-lists = field-lists _ others lists
 
   target-lists : Lists (target others)
-  target-lists = field-lists _ others lists (λ field. if_target_lem (target_of field))
+  target-lists = field-lists _ others lists
 
   level-lists : Lists (level others)
-  level-lists = field-lists _ others lists (λ field. if_level_lem (level_of field))
+  level-lists = field-lists _ others lists
 
   context-lists : Lists (context others)
-  context-lists = field-lists _ others lists (λ field. if_context_lem (context_of field))
+  context-lists = field-lists _ others lists
 
 -- ---- Lists
 
@@ -115,15 +94,15 @@ unfolding all_entries leading
 all_lead entries [] h = refl
 all_lead entries (part ∷ parts) h =
     (elim (entry_of entries part) as
-    (λ m. (is_entry m && all_entries entries parts) ≡ true → suc (length parts) ≡ length (in_front_of m (leading entries parts)))
-    [ Of n ↦ λ e. ap suc (all_lead entries parts e) | no_number ↦ λ e. absurd (false≢true e) ])
+    (λ m. (is_some m && all_entries entries parts) ≡ true → suc (length parts) ≡ length (in_front_of m (leading entries parts)))
+    [ Some n ↦ λ e. ap suc (all_lead entries parts e) | None ↦ λ e. absurd (false≢true e) ])
     h
 
 list_counts : (entries : Entries) (event : Event) (parts : List (List ℕ)) → Counts (list_says entries event parts) (length (leading entries parts))
 unfolding list_says
 list_counts entries event parts =
     by_test (λ line. Counts line (length (leading entries parts))) (all_entries entries parts)
-    (λ h event' n e. (let m : length parts ≡ n = cc in sym m ∙ all_lead entries parts h))
+    (λ h event' n e. sym (entries_same e) ∙ all_lead entries parts h)
     (λ h. never _)
 
 leading_le : (entries : Entries) (parts : List (List ℕ)) → length (leading entries parts) ≤ length parts
@@ -131,7 +110,7 @@ unfolding leading
 leading_le entries [] = zero-le
 leading_le entries (part ∷ parts) =
     elim (entry_of entries part) as (λ m. length (in_front_of m (leading entries parts)) ≤ suc (length parts))
-    [ Of n ↦ suc-le-suc (leading_le entries parts) | no_number ↦ zero-le ]
+    [ Some n ↦ suc-le-suc (leading_le entries parts) | None ↦ zero-le ]
 
 fields_le_width : (fields : List (List ℕ)) → length fields ≤ width fields
 fields_le_width [] = zero-le
@@ -238,7 +217,7 @@ put-taken list text h =
 
 -- where a line says something, as many cells as it counts are its entries
 pub list_read :
-    (line list : List ℕ) (event : Event) (n : ℕ) → length (line_list line) ≤ length list → line_says line ≡ Says event n
+    (line list : List ℕ) (event : Event) (n : ℕ) → length (line_list line) ≤ length list → line_says line ≡ saying event n
     → (take n (printed list 0 (line_list line)) ≡ line_list line) × (n ≡ length (line_list line))
 list_read line list event n room said =
     let count = line-counts line event n said in (

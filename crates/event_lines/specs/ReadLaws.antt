@@ -1,5 +1,5 @@
 -- Laws of reading, a field at a time. Where no field is left, the next one is taken to be empty, and says nothing either.
-use Rattle.std.specs.Prelude.{ℕ, ◌+◌, ◌-◌, ◌≤◌, ◌<◌, ◌≡◌, refl, leb, ltb, length, take, drop, set}
+use Rattle.std.specs.Prelude.{ℕ, ◌+◌, ◌-◌, ◌≤◌, ◌<◌, ◌≡◌, refl, leb, ltb, length, take, drop, set, Option, Some, None, option_map, option_and_then}
 use Rattle.std.proofs.Common.{sym, ap, ◌∙◌, arith, length-drop, drop_of_length-le, take_all}
 use Rattle.std.proofs.Math.Bool.{true, false}
 use mathlib.Core.List.{List, [], ◌∷◌, tail}
@@ -9,8 +9,6 @@ use Rattle.std.specs.Prelude.{if◌then◌else◌}
 use Rattle.notation.specs.Text.{bytes}
 use Rattle.split.specs.Split.{tab, split}
 use Rattle.words.specs.Words.{same}
-use Rattle.numbers.specs.declared.Number.{Number}
-use Rattle.numbers.specs.declared.Number.TheVariants.{Of, Malformed as no_number}
 use Rattle.numbers.specs.Numbers.{number_of}
 use Rattle.numbers.specs.ReadLaws.{number-empty}
 use Rattle.fields.specs.Fields.{field_end, fields_left}
@@ -24,19 +22,9 @@ use Rattle.events.specs.declared.Entries.{Entries}
 use Rattle.events.specs.declared.Entries.TheVariants.{Uses, Variables}
 use Rattle.events.specs.declared.Event.{Event}
 use Rattle.events.specs.declared.Event.TheVariants.{Temp, Close}
-use Rattle.event_fields.specs.declared.TargetField.{TargetField}
-use Rattle.event_fields.specs.declared.TargetField.TheVariants.{Of as of_target, Malformed as no_target}
-use Rattle.event_fields.specs.declared.LevelField.{LevelField}
-use Rattle.event_fields.specs.declared.LevelField.TheVariants.{Of as of_level, Malformed as no_level}
-use Rattle.event_fields.specs.declared.ContextField.{ContextField}
-use Rattle.event_fields.specs.declared.ContextField.TheVariants.{Of as of_context, Malformed as no_context}
 use Rattle.event_fields.specs.EventFields.{target_of, level_of, context_of, entry_of}
-use Rattle.event_lines.specs.declared.Line.{Line}
-use Rattle.event_lines.specs.declared.Line.TheVariants.{Malformed, Says}
-use Rattle.event_lines.specs.declared.Counted.{Counted}
-use Rattle.event_lines.specs.declared.Counted.TheVariants.{Of as of_count, Malformed as no_count}
-use Rattle.event_lines.specs.LineForms.{Form, end_says, field_says, if_number, if_target, if_level, if_context, number, target, level, context, all_entries, list_says, leading, comma, uses_in, uses_say, uses_list}
-use Rattle.event_lines.specs.Reading.{one_number, paired, two_numbers, tripled, three_numbers, event_among, bare_said, bare_line, with_one, with_two, with_three, mark_of, marked, mark_line, counted, uses_count, recorded, temp_line, temp_list, closed, close_line, close_list, list_line, said_by, entries_by}
+use Rattle.event_lines.specs.LineForms.{Line, saying, Form, end_says, field_says, number, target, level, context, all_entries, list_says, leading, comma, uses_in, uses_say, uses_list}
+use Rattle.event_lines.specs.Reading.{one_number, paired, two_numbers, tripled, three_numbers, event_among, bare_said, bare_line, with_one, with_two, with_three, mark_of, mark_line, counted, uses_count, temp_line, temp_list, close_line, close_list, list_line, said_by, entries_by}
 
 -- the next field, and what is left behind it
 abbrev pub next : ℕ → List ℕ → List ℕ
@@ -50,7 +38,7 @@ behind mark rest = drop (field_end mark rest) rest
 another : (rest : List ℕ) → field_end tab rest < length rest → 0 < length (behind tab rest)
 another rest h = omega (arith, length-drop (field_end tab rest) rest)
 
-pub one_more : (rest : List ℕ) → field_end tab rest < length rest → one_number (fields_left tab rest) ≡ no_number
+pub one_more : (rest : List ℕ) → field_end tab rest < length rest → one_number (fields_left tab rest) ≡ None
 unfolding one_number
 one_more rest h = rw (left_some tab rest (omega arith), left_some tab (behind tab rest) (another rest h))
 
@@ -77,16 +65,16 @@ module _ (code : ℕ) (rest : List ℕ) where
   unfolding bare_line
   bare_none h = rw (left_none tab rest h)
 
-  pub bare_some : (length rest ≡ 0 → ⊥) → bare_line code (fields_left tab rest) ≡ Malformed
+  pub bare_some : (length rest ≡ 0 → ⊥) → bare_line code (fields_left tab rest) ≡ None
   unfolding bare_line
   bare_some h = rw (left_some tab rest (omega arith))
 
 module _ (event : Event) (rest : List ℕ) where
-  pub end_none : length rest ≡ 0 → end_says event (fields_left tab rest) ≡ Says event 0
+  pub end_none : length rest ≡ 0 → end_says event (fields_left tab rest) ≡ saying event 0
   unfolding end_says
   end_none h = rw (left_none tab rest h)
 
-  pub end-some : (length rest ≡ 0 → ⊥) → end_says event (fields_left tab rest) ≡ Malformed
+  pub end-some : (length rest ≡ 0 → ⊥) → end_says event (fields_left tab rest) ≡ None
   unfolding end_says
   end-some h = rw (left_some tab rest (omega arith))
 
@@ -94,70 +82,54 @@ module _ (event : Event) (rest : List ℕ) where
 
 -- where none is left, the next one is taken to be empty
 field_step :
-    {A B : Type 0} (read : List ℕ → (B → Line) → Line) (others : Form A) → ((line : B → Line) → read [] line ≡ Malformed)
-    → (event : B → A) (rest : List ℕ)
+    {A B : Type 0} (read : List ℕ → Option B) (others : Form A) → read [] ≡ None → (event : B → A) (rest : List ℕ)
     → field_says read others event (fields_left tab rest)
-    ≡ read (next tab rest) (λ b. others.says (event b) (fields_left tab (behind tab rest)))
+    ≡ option_and_then (λ b. others.says (event b) (fields_left tab (behind tab rest))) (read (next tab rest))
 unfolding field_says
-field_step read others empty event [] = rw (left_none tab [] refl, take-nil {A = ℕ} (field_end tab [] - 1)) (sym (empty _))
+field_step read others empty event [] = rw (left_none tab [] refl, take-nil {A = ℕ} (field_end tab [] - 1), empty)
 field_step read others empty event (c ∷ cs) = rw (left_some tab (c ∷ cs) (omega arith))
 
 module _ {A : Type 0} (others : Form A) where
   number_step :
       (event : ℕ → A) (rest : List ℕ)
       → (number others).says event (fields_left tab rest)
-      ≡ if_number (number_of (next tab rest)) (λ n. others.says (event n) (fields_left tab (behind tab rest)))
-  number_step = field_step _ others (λ line. rw (number-empty [] refl))
+      ≡ option_and_then (λ n. others.says (event n) (fields_left tab (behind tab rest))) (number_of (next tab rest))
+  number_step = field_step number_of others (number-empty [] refl)
 
   target-step :
       (event : Target → A) (rest : List ℕ)
       → (target others).says event (fields_left tab rest)
-      ≡ if_target (target_of (next tab rest)) (λ t. others.says (event t) (fields_left tab (behind tab rest)))
+      ≡ option_and_then (λ t. others.says (event t) (fields_left tab (behind tab rest))) (target_of (next tab rest))
   unfolding target_of same
-  target-step = field_step _ others (λ line. refl)
+  target-step = field_step target_of others refl
 
   level-step :
       (event : Level → A) (rest : List ℕ)
       → (level others).says event (fields_left tab rest)
-      ≡ if_level (level_of (next tab rest)) (λ l. others.says (event l) (fields_left tab (behind tab rest)))
+      ≡ option_and_then (λ l. others.says (event l) (fields_left tab (behind tab rest))) (level_of (next tab rest))
   unfolding level_of same
-  level-step = field_step _ others (λ line. refl)
+  level-step = field_step level_of others refl
 
   context-step :
       (event : GenContext → A) (rest : List ℕ)
       → (context others).says event (fields_left tab rest)
-      ≡ if_context (context_of (next tab rest)) (λ c. others.says (event c) (fields_left tab (behind tab rest)))
+      ≡ option_and_then (λ c. others.says (event c) (fields_left tab (behind tab rest))) (context_of (next tab rest))
   unfolding context_of same
-  context-step = field_step _ others (λ line. refl)
+  context-step = field_step context_of others refl
 
 -- ---- Target, level, context
-
--- the code looks at the context first
-marked-read :
-    (code : ℕ) (c : ContextField) (l : LevelField) (t : TargetField) (fields : List (List ℕ))
-    → if_target t (λ t. if_level l (λ l. if_context c (λ c. mark_of code t l c fields))) ≡ marked code c l t fields
-marked-read code (of_context c) (of_level l) (of_target t) fields = refl
-marked-read code (of_context c) (of_level l) no_target fields = refl
-marked-read code (of_context c) no_level (of_target t) fields = refl
-marked-read code (of_context c) no_level no_target fields = refl
-marked-read code no_context (of_level l) (of_target t) fields = refl
-marked-read code no_context (of_level l) no_target fields = refl
-marked-read code no_context no_level (of_target t) fields = refl
-marked-read code no_context no_level no_target fields = refl
 
 pub mark_step :
     (code : ℕ) (rest : List ℕ)
     → mark_line code (fields_left tab rest)
-    ≡ marked code
-    (context_of (next tab (behind tab (behind tab rest))))
-    (level_of (next tab (behind tab rest)))
+    ≡ option_and_then
+    (λ t. option_and_then
+    (λ l. option_and_then
+    (λ c. mark_of code t l c (fields_left tab (behind tab (behind tab (behind tab rest)))))
+    (context_of (next tab (behind tab (behind tab rest)))))
+    (level_of (next tab (behind tab rest))))
     (target_of (next tab rest))
-    (fields_left tab (behind tab (behind tab (behind tab rest))))
-mark_step code rest =
-    let second = behind tab rest in
-    let third = behind tab second in
-    simp (target-step, level-step, context-step)
-    (marked-read code (context_of (next tab third)) (level_of (next tab second)) (target_of (next tab rest)) (fields_left tab (behind tab third)))
+mark_step code rest = simp (target-step, level-step, context-step)
 
 -- ---- Uses
 
@@ -171,7 +143,7 @@ module _ (c : ℕ) (cs : List ℕ) where
   uses_more : (field_end tab (c ∷ cs) ≡ length (c ∷ cs) → ⊥) → field_end tab (c ∷ cs) < length (c ∷ cs)
   uses_more h = omega (arith, end_within tab (c ∷ cs) (omega arith))
 
-pub uses-other : (rest : List ℕ) → (field_end tab rest ≡ length rest → ⊥) → uses_count (fields_left tab rest) ≡ no_count
+pub uses-other : (rest : List ℕ) → (field_end tab rest ≡ length rest → ⊥) → uses_count (fields_left tab rest) ≡ None
 unfolding uses_count
 uses-other [] h = rw (left_none tab [] refl)
 uses-other (c ∷ cs) h =
@@ -184,7 +156,7 @@ uses-other-list (c ∷ cs) h =
     rw (left_some tab (c ∷ cs) (omega arith), left_some tab (behind tab (c ∷ cs)) (another (c ∷ cs) (uses_more c cs h)))
 
 module _ (rest : List ℕ) (whole : field_end tab rest ≡ length rest) where
-  pub uses-none : same (next tab rest) (bytes "-") ≡ true → uses_count (fields_left tab rest) ≡ of_count 0
+  pub uses-none : same (next tab rest) (bytes "-") ≡ true → uses_count (fields_left tab rest) ≡ Some 0
   unfolding uses_count uses_in counted all_entries
   uses-none e = rw (left_last tab rest whole, e)
 
@@ -204,12 +176,12 @@ module _ (rest : List ℕ) (whole : field_end tab rest ≡ length rest) where
 
 -- ---- `temp` and `close`
 
-module _ (line : Counted → Line) (event : Event) (some : (n : ℕ) → line (of_count n) ≡ Says event n) (none : line no_count ≡ Malformed) where
+module _ (line : Option ℕ → Line) (event : Event) (some : (n : ℕ) → line (Some n) ≡ saying event n) (none : line None ≡ None) where
   pub counted-read : (entries : Entries) (parts : List (List ℕ)) → line (counted entries parts) ≡ list_says entries event parts
   unfolding counted list_says
   counted-read entries parts =
       elim (all_entries entries parts) as
-      (λ t. line (if t then of_count (length parts) else no_count) ≡ (if t then Says event (length parts) else Malformed))
+      (λ t. line (if t then Some (length parts) else None) ≡ (if t then saying event (length parts) else None))
       [ true ↦ some (length parts) | false ↦ none ]
 
   uses-read : (fields : List (List ℕ)) → line (uses_count fields) ≡ uses_say event fields
@@ -218,25 +190,25 @@ module _ (line : Counted → Line) (event : Event) (some : (n : ℕ) → line (o
   uses-read (field ∷ []) = counted-read Uses (uses_in field)
   uses-read (field ∷ (next ∷ fields)) = none
 
-recorded-read :
-    (n : Number) (c : ContextField) (fields : List (List ℕ))
-    → recorded n c (uses_count fields) ≡ if_context c (λ c. if_number n (λ n. uses_say (Temp c n) fields))
-recorded-read (Of n) (of_context c) fields = uses-read (recorded (Of n) (of_context c)) (Temp c n) (λ count. refl) refl fields
-recorded-read (Of n) no_context fields = refl
-recorded-read no_number (of_context c) fields = refl
-recorded-read no_number no_context fields = refl
+pub list_said :
+    (entries : Entries) (event : Event) (parts : List (List ℕ))
+    → list_says entries event parts ≡ option_map (λ n. record { event = event; entries = n }) (counted entries parts)
+list_said entries event parts = sym (counted-read (option_map (λ n. record { event = event; entries = n })) event (λ n. refl) refl entries parts)
+
+pub uses_said :
+    (event : Event) (fields : List (List ℕ))
+    → uses_say event fields ≡ option_map (λ n. record { event = event; entries = n }) (uses_count fields)
+uses_said event fields = sym (uses-read (option_map (λ n. record { event = event; entries = n })) event (λ n. refl) refl fields)
 
 pub temp_step :
     (rest : List ℕ)
     → temp_line (fields_left tab rest)
-    ≡ recorded
-    (number_of (next tab (behind tab rest)))
+    ≡ option_and_then
+    (λ c. option_and_then
+    (λ n. option_map (λ count. record { event = Temp c n; entries = count }) (uses_count (fields_left tab (behind tab (behind tab rest)))))
+    (number_of (next tab (behind tab rest))))
     (context_of (next tab rest))
-    (uses_count (fields_left tab (behind tab (behind tab rest))))
-temp_step rest =
-    let second = behind tab rest in
-    simp (context-step, number_step)
-    (sym (recorded-read (number_of (next tab second)) (context_of (next tab rest)) (fields_left tab (behind tab second))))
+temp_step rest = simp (context-step, number_step, uses_said)
 
 -- the fields behind the next one
 left_tail : (rest : List ℕ) → tail (fields_left tab rest) ≡ fields_left tab (behind tab rest)
@@ -246,13 +218,13 @@ left_tail (c ∷ cs) = rw (left_some tab (c ∷ cs) (omega arith))
 pub temp_list-step : (rest : List ℕ) → temp_list (fields_left tab rest) ≡ uses_list (fields_left tab (behind tab (behind tab rest)))
 temp_list-step rest = rw (left_tail rest, left_tail (behind tab rest))
 
-closed-read :
-    (m : Number) (fields : List (List ℕ)) → closed m (counted Variables fields) ≡ if_number m (λ d. list_says Variables (Close d) fields)
-closed-read (Of d) fields = counted-read (closed (Of d)) (Close d) (λ n. refl) refl Variables fields
-closed-read no_number fields = refl
-
-pub close-step : (rest : List ℕ) → close_line (fields_left tab rest) ≡ closed (number_of (next tab rest)) (counted Variables (fields_left tab (behind tab rest)))
-close-step rest = number_step _ Close rest ∙ sym (closed-read (number_of (next tab rest)) (fields_left tab (behind tab rest)))
+pub close-step :
+    (rest : List ℕ)
+    → close_line (fields_left tab rest)
+    ≡ option_and_then
+    (λ d. option_map (λ count. record { event = Close d; entries = count }) (counted Variables (fields_left tab (behind tab rest))))
+    (number_of (next tab rest))
+close-step rest = simp (number_step, list_said)
 
 pub close_list-step : (rest : List ℕ) → close_list (fields_left tab rest) ≡ leading Variables (fields_left tab (behind tab rest))
 close_list-step rest = rw (left_tail rest)
@@ -269,15 +241,15 @@ module _ (entries : Entries) (mark : ℕ) (rest : List ℕ) where
   leading-none h = rw (left_none mark rest h)
 
   module _ (some : 0 < length rest) where
-    pub all_not : entry_of entries (next mark rest) ≡ no_number → all_entries entries (fields_left mark rest) ≡ false
+    pub all_not : entry_of entries (next mark rest) ≡ None → all_entries entries (fields_left mark rest) ≡ false
     unfolding all_entries
     all_not e = rw (left_some mark rest some, e)
 
-    pub leading-not : entry_of entries (next mark rest) ≡ no_number → leading entries (fields_left mark rest) ≡ []
+    pub leading-not : entry_of entries (next mark rest) ≡ None → leading entries (fields_left mark rest) ≡ []
     unfolding leading
     leading-not e = rw (left_some mark rest some, e)
 
-    module _ (n : ℕ) (e : entry_of entries (next mark rest) ≡ Of n) where
+    module _ (n : ℕ) (e : entry_of entries (next mark rest) ≡ Some n) where
       pub all_more : all_entries entries (fields_left mark rest) ≡ all_entries entries (fields_left mark (behind mark rest))
       unfolding all_entries
       all_more = rw (left_some mark rest some, e)
@@ -286,11 +258,11 @@ module _ (entries : Entries) (mark : ℕ) (rest : List ℕ) where
       unfolding leading
       leading_more = rw (left_some mark rest some, e)
 
-pub counted_all : (entries : Entries) (parts : List (List ℕ)) → all_entries entries parts ≡ true → counted entries parts ≡ of_count (length parts)
+pub counted_all : (entries : Entries) (parts : List (List ℕ)) → all_entries entries parts ≡ true → counted entries parts ≡ Some (length parts)
 unfolding counted
 counted_all entries parts e = rw e
 
-pub counted-not : (entries : Entries) (parts : List (List ℕ)) → all_entries entries parts ≡ false → counted entries parts ≡ no_count
+pub counted-not : (entries : Entries) (parts : List (List ℕ)) → all_entries entries parts ≡ false → counted entries parts ≡ None
 unfolding counted
 counted-not entries parts e = rw e
 
@@ -320,7 +292,7 @@ put_more list at n ns put = ap (λ l. printed l (at + 1) ns) put ∙ put_next li
 
 -- ---- All numbers of words
 
-pub said_unknown : (code : ℕ) (fields : List (List ℕ)) → code ≡ 0 → said_by code fields ≡ Malformed
+pub said_unknown : (code : ℕ) (fields : List (List ℕ)) → code ≡ 0 → said_by code fields ≡ None
 unfolding said_by bare_line event_among
 said_unknown code [] h = rw h refl
 said_unknown code (field ∷ fields) h = rw h refl
@@ -364,7 +336,7 @@ module _ (code : ℕ) (fields : List (List ℕ)) where
         lt-leb code 19 l,
       )
 
-  pub said_past : 22 < code → said_by code fields ≡ Malformed
+  pub said_past : 22 < code → said_by code fields ≡ None
   unfolding list_line
   said_past h =
       said_list (omega arith)

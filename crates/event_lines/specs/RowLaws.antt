@@ -1,11 +1,9 @@
 -- The code's matches say what the table says: each number is read as its row says, and so a line as the row of its word.
-use Rattle.std.specs.Prelude.{ℕ, zero, suc, ◌≡◌, refl, List, [], ◌∷◌, length, take, drop}
+use Rattle.std.specs.Prelude.{ℕ, zero, suc, ◌≡◌, refl, List, [], ◌∷◌, length, take, drop, Option, Some, None, option_and_then}
 use Rattle.std.proofs.Math.Path.{sym, ap, fun_ext}
 use Rattle.std.proofs.Common.{◌∙◌, arith}
 use Rattle.split.specs.Split.{tab, before, split}
 use Rattle.split.specs.SplitLaws.{take-before}
-use Rattle.numbers.specs.declared.Number.{Number}
-use Rattle.numbers.specs.declared.Number.TheVariants.{Of, Malformed as no_number}
 use Rattle.numbers.specs.Numbers.{number_of}
 use Rattle.fields.specs.Fields.{fields_left}
 use Rattle.fields.specs.FieldsLaws.{line_fields}
@@ -15,11 +13,7 @@ use Rattle.targets.specs.declared.Target.{Target}
 use Rattle.events.specs.declared.Entries.TheVariants.{Arguments}
 use Rattle.events.specs.declared.Event.{Event}
 use Rattle.events.specs.declared.Event.TheVariants.{Perm, Sets, Head, Args, Var, Anon, NonVar, Cut, Incr, Free, Safe, Give, Tail, Next, Open, Arm, Take, Reset, Contents, ClearFree}
-use Rattle.event_lines.specs.declared.Line.{Line}
-use Rattle.event_lines.specs.declared.Line.TheVariants.{Malformed, Says}
-use Rattle.event_lines.specs.declared.TwoNumbers.{TwoNumbers}
-use Rattle.event_lines.specs.declared.TwoNumbers.TheVariants.{Of as of_two, Malformed as no_two}
-use Rattle.event_lines.specs.LineForms.{Form, end_says, end, field_says, if_number, number, target, level, context}
+use Rattle.event_lines.specs.LineForms.{Line, saying, Form, end_says, end, field_says, number, target, level, context}
 use Rattle.event_lines.specs.Words.{Word, line_words}
 use Rattle.event_lines.specs.EventLines.{fields_say, fields_list}
 use Rattle.event_lines.specs.Reading.{word_code, word_from, word_at, one_number, paired, two_numbers, tripled, three_numbers, event_among, bare_said, bare_line, with_one, with_two, with_three, var_line, non_var_line, mark_of, mark_line, headed, list_line, said_by, entries_by}
@@ -28,31 +22,31 @@ use Rattle.event_lines.specs.WordsLaws.{Each, ◌&◌, from_each, word_at_lem}
 
 -- ---- Words that stand alone, and words with numbers
 
-bare_read : (code : ℕ) (event : Event) → bare_said code ≡ Says event 0 → (fields : List (List ℕ)) → bare_line code fields ≡ end_says event fields
+bare_read : (code : ℕ) (event : Event) → bare_said code ≡ saying event 0 → (fields : List (List ℕ)) → bare_line code fields ≡ end_says event fields
 unfolding bare_line end_says
 bare_read code event said [] = said
 bare_read code event said (field ∷ fields) = refl
 
 one-read :
-    (line : Number → Line) (event : ℕ → Event) → ((n : ℕ) → line (Of n) ≡ Says (event n) 0) → line no_number ≡ Malformed
+    (line : Option ℕ → Line) (event : ℕ → Event) → ((n : ℕ) → line (Some n) ≡ saying (event n) 0) → line None ≡ None
     → (fields : List (List ℕ)) → line (one_number fields) ≡ (number end).says event fields
 unfolding one_number field_says end_says
 one-read line event some none [] = none
 one-read line event some none (field ∷ []) =
-    elim (number_of field) as (λ m. line m ≡ if_number m (λ n. end_says (event n) [])) [ Of n ↦ some n | no_number ↦ none ]
+    elim (number_of field) as (λ m. line m ≡ option_and_then (λ n. end_says (event n) []) m) [ Some n ↦ some n | None ↦ none ]
 one-read line event some none (field ∷ (next ∷ fields)) =
-    elim (number_of field) as (λ m. line no_number ≡ if_number m (λ n. end_says (event n) (next ∷ fields)))
-    [ Of n ↦ none | no_number ↦ none ]
+    elim (number_of field) as (λ m. line None ≡ option_and_then (λ n. end_says (event n) (next ∷ fields)) m)
+    [ Some n ↦ none | None ↦ none ]
 
 two_read :
-    (line : TwoNumbers → Line) (event : ℕ → ℕ → Event) → ((a b : ℕ) → line (of_two a b) ≡ Says (event a b) 0) → line no_two ≡ Malformed
+    (line : Option (ℕ × ℕ) → Line) (event : ℕ → ℕ → Event) → ((a b : ℕ) → line (Some (a, b)) ≡ saying (event a b) 0) → line None ≡ None
     → (fields : List (List ℕ)) → line (two_numbers fields) ≡ (number (number end)).says event fields
 unfolding two_numbers field_says
 two_read line event some none [] = none
 two_read line event some none (field ∷ fields) =
-    elim (number_of field) as (λ m. line (paired m (one_number fields)) ≡ if_number m (λ a. (number end).says (event a) fields)) [
-      | Of a ↦ one-read (λ m. line (paired (Of a) m)) (event a) (some a) none fields
-      | no_number ↦ none
+    elim (number_of field) as (λ m. line (paired m (one_number fields)) ≡ option_and_then (λ a. (number end).says (event a) fields) m) [
+      | Some a ↦ one-read (λ m. line (paired (Some a) m)) (event a) (some a) none fields
+      | None ↦ none
     ]
 
 three_read : (fields : List (List ℕ)) → with_three (three_numbers fields) ≡ (number (number (number end))).says Open fields
@@ -60,21 +54,21 @@ unfolding three_numbers field_says
 three_read [] = refl
 three_read (field ∷ fields) =
     elim (number_of field) as
-    (λ m. with_three (tripled m (two_numbers fields)) ≡ if_number m (λ a. (number (number end)).says (Open a) fields)) [
-      | Of a ↦ two_read (λ m. with_three (tripled (Of a) m)) (Open a) (λ b c. refl) refl fields
-      | no_number ↦ refl
+    (λ m. with_three (tripled m (two_numbers fields)) ≡ option_and_then (λ a. (number (number end)).says (Open a) fields) m) [
+      | Some a ↦ two_read (λ m. with_three (tripled (Some a) m)) (Open a) (λ b c. refl) refl fields
+      | None ↦ refl
     ]
 
 -- ---- Terms
 
 -- a field and what is the same behind it
 field-same :
-    {A B C : Type 0} (read : List ℕ → (C → Line) → Line) (here : Form A) (there : Form B) (event : C → A) (event' : C → B)
+    {A B C : Type 0} (read : List ℕ → Option C) (here : Form A) (there : Form B) (event : C → A) (event' : C → B)
     → ((c : C) (fields : List (List ℕ)) → here.says (event c) fields ≡ there.says (event' c) fields) → (fields : List (List ℕ))
     → field_says read here event fields ≡ field_says read there event' fields
 unfolding field_says
 field-same read here there event event' same [] = refl
-field-same read here there event event' same (field ∷ fields) = ap (read field) (fun_ext (λ c. same c fields))
+field-same read here there event event' same (field ∷ fields) = ap (λ behind. option_and_then behind (read field)) (fun_ext (λ c. same c fields))
 
 mark_read :
     {A : Type 0} (others : Form A) (event : Target → Level → GenContext → A) (code : ℕ)

@@ -3,8 +3,7 @@ use Rattle.std.specs.Prelude.{ℕ, List, [], ◌∷◌}
 use Rattle.notation.specs.Text.{bytes}
 use Rattle.events.specs.declared.Entries.TheVariants.{Arguments, Variables}
 use Rattle.events.specs.declared.Event.TheVariants.{Temp, Perm, Sets, Head, Args, Var, Anon, NonVar, Cut, Incr, Free, Safe, Give, Tail, Next, Open, Arm, Take, Close, Reset, Contents, ClearFree}
-use Rattle.event_lines.specs.declared.Line.{Line}
-use Rattle.event_lines.specs.LineForms.{Form, end, number, target, level, context, list, uses_field}
+use Rattle.event_lines.specs.LineForms.{Line, Form, end, number, target, level, context, list, uses_field}
 
 -- how a word is spelled, what its line says by the fields behind it, and the entries of its list
 pub record Word : Type 0 where

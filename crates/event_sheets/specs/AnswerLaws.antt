@@ -1,17 +1,17 @@
 -- Laws of the answer: what the code makes of a run.
-use Rattle.std.specs.Prelude.{ℕ, ◌≤◌, ◌<◌, ◌≡◌, refl, true, false, List, ◌++◌, ltb, take, drop}
+use Rattle.std.specs.Prelude.{ℕ, ◌≤◌, ◌<◌, ◌≡◌, refl, true, false, List, ◌++◌, ltb, take, drop, Ok, Some}
 use Rattle.std.proofs.Math.Path.{ap, ap₂, sym}
 use Rattle.std.proofs.Common.{◌∙◌, zero-add, arith, length-append, length-drop, take_all}
 use Rattle.std.proofs.Math.ListN.{length}
 use borrow.Author.Tests.{lt-ltb, le-ltb}
 use Rattle.std.specs.Prelude.{if◌then◌else◌}
-use Rattle.refusals.specs.Refusals.{refused_full, refused_room}
+use Rattle.refusals.specs.declared.Refusal.{Refusal}
+use Rattle.refusals.specs.declared.Refusal.TheVariants.{Full, Room}
+use Rattle.refusals.specs.Refusals.{accepted, refused_full}
 use Rattle.sizes.specs.Sizes.{sheet_bytes}
 use Rattle.printing.specs.Printing.{printed}
 use Rattle.answers.specs.AnswersLaws.{read_back}
-use Rattle.answered.specs.declared.Answered.{Answered}
-use Rattle.answered.specs.declared.Answered.TheVariants.{Written, Refused}
-use Rattle.answered.specs.Answered.{filled_by}
+use Rattle.answered.specs.Answered.{Answered, refused, filled_by}
 use Rattle.event_sheets.specs.declared.Run.{Run}
 use Rattle.event_sheets.specs.EventSheets.{Ran, refused_at, sheet_ran, answered_by, answered, filled}
 use Rattle.event_sheets.specs.Running.{whole_ran, told}
@@ -42,43 +42,42 @@ module _ (r : Ran) (out : List ℕ) where
     length-told = ap (λ r. r.length) e
 
     -- lines first
-    answered-refused : 0 < run.refusal → Refused run.line run.refusal ≡ answered_by r (length out)
+    answered-refused : {refusal : Refusal} → run.refusal ≡ Some refusal → refused run.line refusal ≡ answered_by r (length out)
     unfolding answered_by
-    answered-refused bad =
-        let b : 0 < r.refusal = omega (arith, refusal_told) in
-        ap₂ Refused (ap (λ r. r.line) e) refusal_told ∙ sym (simp (lt-ltb _ _ b))
+    answered-refused {refusal} bad =
+        ap (λ line. refused line refusal) (ap (λ r. r.line) e) ∙ simp (sym refusal_told ∙ bad)
 
-    pub run-refused : 0 < run.refusal → AnsweredBy (Refused run.line run.refusal) out
+    pub run-refused : {refusal : Refusal} → run.refusal ≡ Some refusal → AnsweredBy (refused run.line refusal) out
     run-refused bad = by (answered-refused bad) refl
 
-    module _ (good : run.refusal ≤ 0) where
-      accepted-told : r.refusal ≤ 0
-      accepted-told = omega (arith, refusal_told)
+    module _ (good : run.refusal ≡ accepted) where
+      accepted-told : r.refusal ≡ accepted
+      accepted-told = sym refusal_told ∙ good
 
       -- room last
-      answered_longer : length out < run.length → Refused 0 refused_room ≡ answered_by r (length out)
+      answered_longer : length out < run.length → refused 0 Room ≡ answered_by r (length out)
       unfolding answered_by
       answered_longer long =
           let l : length out < length r.text = omega (arith, length-told) in
-          sym (simp (le-ltb _ _ accepted-told, lt-ltb _ _ l))
+          sym (simp (accepted-told, lt-ltb _ _ l))
 
-      pub run_longer : length out < run.length → AnsweredBy (Refused 0 refused_room) out
+      pub run_longer : length out < run.length → AnsweredBy (refused 0 Room) out
       run_longer long = by (answered_longer long) refl
 
-      answered-written : run.length ≤ length out → Written run.length ≡ answered_by r (length out)
+      answered-written : run.length ≤ length out → Ok run.length ≡ answered_by r (length out)
       unfolding answered_by
       answered-written short =
           let l : length r.text ≤ length out = omega (arith, length-told) in
-          ap Written length-told ∙ sym (simp (le-ltb _ _ accepted-told, le-ltb _ _ l))
+          ap Ok length-told ∙ sym (simp (accepted-told, le-ltb _ _ l))
 
       pub run-written :
           {after : List ℕ} → run.length ≤ length out → after ≡ r.text ++ drop run.length out
-          → AnsweredBy (Written run.length) after
+          → AnsweredBy (Ok run.length) after
       run-written short fills = by (answered-written short) fills
 
       pub run-printed :
           {after : List ℕ} → run.length ≤ length out → after ≡ printed out 0 r.text
-          → AnsweredBy (Written run.length) after
+          → AnsweredBy (Ok run.length) after
       run-printed short put =
           run-written short
           (put
@@ -88,7 +87,7 @@ module _ (r : Ran) (out : List ℕ) where
       -- a text that was kept aside is copied as it is
       pub run_copied :
           {copy after : List ℕ} → run.length ≤ length out → copy ≡ r.text → after ≡ printed out 0 copy
-          → AnsweredBy (Written run.length) after
+          → AnsweredBy (Ok run.length) after
       run_copied short whole put = run-printed short (put ∙ ap (printed out 0) whole)
 
 -- the front of what is kept aside
@@ -110,6 +109,6 @@ unfolding answered filled whole_ran answered_by
 sheet-answered sheet out {a} {after} =
     elim (ltb sheet_bytes (length sheet)) as
     (λ t. AnsweredBy (if t then refused_at 0 refused_full else sheet_ran sheet) out a after
-    → (a ≡ (if t then Refused 0 refused_full else answered_by (sheet_ran sheet) (length out)))
-    × (after ≡ filled_by (if t then Refused 0 refused_full else answered_by (sheet_ran sheet) (length out)) (sheet_ran sheet).text out))
+    → (a ≡ (if t then refused 0 Full else answered_by (sheet_ran sheet) (length out)))
+    × (after ≡ filled_by (if t then refused 0 Full else answered_by (sheet_ran sheet) (length out)) (sheet_ran sheet).text out))
     [ true ↦ λ h. h | false ↦ λ h. h ]

@@ -1,27 +1,26 @@
 -- The whole answer to an event sheet, for every list of bytes and every room: rules 1.1, 1.4.
-use Rattle.std.specs.Prelude.{ℕ, suc, ◌-◌, List, [], ◌∷◌, ◌++◌, leb, ltb, length}
+use Rattle.std.specs.Prelude.{ℕ, suc, ◌-◌, List, [], ◌∷◌, ◌++◌, leb, ltb, length, Option, Ok, Some, None}
 use Rattle.std.specs.Prelude.{if◌then◌else◌}
-use Rattle.refusals.specs.Refusals.{accepted, refused_form, refused_full, refused_room}
+use Rattle.refusals.specs.declared.Refusal.{Refusal}
+use Rattle.refusals.specs.declared.Refusal.TheVariants.{Full, Room}
+use Rattle.refusals.specs.Refusals.{accepted, refused_form, is_refused}
 use Rattle.sizes.specs.Sizes.{sheet_bytes}
 use Rattle.split.specs.Split.{line_feed, split}
 use Rattle.allocator_state.specs.declared.Counters.{Counters}
-use Rattle.event_lines.specs.declared.Line.{Line}
-use Rattle.event_lines.specs.declared.Line.TheVariants.{Malformed, Says}
+use Rattle.event_lines.specs.LineForms.{Line}
 use Rattle.event_lines.specs.EventLines.{line_says, line_list}
 use Rattle.debray_allocator.specs.declared.State.{State}
 use Rattle.debray_allocator.specs.declared.Answer.{Answer}
 use Rattle.debray_allocator.specs.State.{fresh_state}
 use Rattle.debray_allocator.specs.DebrayAllocator.{refused_with, stepped}
 use Rattle.answers.specs.Answers.{text_of, end_text}
-use Rattle.answered.specs.declared.Answered.{Answered}
-use Rattle.answered.specs.declared.Answered.TheVariants.{Written, Refused}
-use Rattle.answered.specs.Answered.{filled_by}
+use Rattle.answered.specs.Answered.{Answered, refused, filled_by}
 
 -- ---- A line: form first (rule 4.12), then the event's own refusals
 
 abbrev pub said_answer : State → Line → List ℕ → Answer
-said_answer s Malformed list = refused_with s refused_form
-said_answer s (Says event count) list = stepped s event list
+said_answer s None list = refused_with s refused_form
+said_answer s (Some said) list = stepped s said.event list
 
 unfoldable pub line_answer : State → List ℕ → Answer
 line_answer s line = said_answer s (line_says line) (line_list line)
@@ -31,9 +30,9 @@ line_answer s line = said_answer s (line_says line) (line_list line)
 pub record Ran : Type 0 where
   pub text : List ℕ
   pub line : ℕ
-  pub refusal : ℕ
+  pub refusal : Option Refusal
 
-abbrev pub refused_at : ℕ → ℕ → Ran
+abbrev pub refused_at : ℕ → Option Refusal → Ran
 refused_at line refusal = record { text = []; line = line; refusal = refusal }
 
 abbrev pub behind : List ℕ → Ran → Ran
@@ -56,7 +55,7 @@ last_ran c number left = if ltb 0 (length left) then refused_at number refused_f
 -- rule 4.11: a line that is refused ends the work; behind any other line it goes on with the new state
 unfoldable pub line_ran : ℕ → Answer → (State → Ran) → Ran
 line_ran number a others =
-    if ltb 0 a.refusal then refused_at number a.refusal
+    if is_refused a.refusal then refused_at number a.refusal
     else behind (text_of a) (others a.state)
 
 -- rule 16.1: from a state on, the lines from a number on; the last part is what stands behind the last LF
@@ -70,15 +69,18 @@ sheet_ran sheet = ran fresh_state 1 (split line_feed sheet)
 
 -- ---- The answer: length first, room last (rules 3.1, 4.9, 4.10)
 
+-- others, where there is no refusal
+abbrev pub refused_or : ℕ → Option Refusal → Answered → Answered
+refused_or line (Some refusal) others = refused line refusal
+refused_or line None others = others
+
 unfoldable pub answered_by : Ran → ℕ → Answered
 answered_by r room =
-    if ltb 0 r.refusal
-    then Refused r.line r.refusal
-    else if ltb room (length r.text) then Refused 0 refused_room else Written (length r.text)
+    refused_or r.line r.refusal (if ltb room (length r.text) then refused 0 Room else Ok (length r.text))
 
 unfoldable pub answered : List ℕ → ℕ → Answered
 answered sheet room =
-    if ltb sheet_bytes (length sheet) then Refused 0 refused_full else answered_by (sheet_ran sheet) room
+    if ltb sheet_bytes (length sheet) then refused 0 Full else answered_by (sheet_ran sheet) room
 
 unfoldable pub filled : List ℕ → List ℕ → List ℕ
 filled sheet out = filled_by (answered sheet (length out)) (sheet_ran sheet).text out

@@ -1,10 +1,12 @@
 -- Laws of the answer: there is one, its lines come in order, the first bad one decides, and it stays within the room.
-use Rattle.std.specs.Prelude.{ℕ, suc, ◌+◌, ◌-◌, ◌*◌, ◌≤◌, ◌<◌, ◌≡◌, refl, Bool, true, false, not, ◌&&◌, List, [], ◌∷◌, ◌++◌, ltb, length, drop}
+use Rattle.std.specs.Prelude.{ℕ, suc, ◌+◌, ◌-◌, ◌*◌, ◌≤◌, ◌≡◌, refl, Bool, true, false, not, ◌&&◌, List, [], ◌∷◌, ◌++◌, ltb, length, drop, Ok, Some, None}
 use Rattle.std.proofs.Common.{ap, sym, ◌∙◌, append_assoc, add-zero, arith, length-append, ltb-false}
 use Rattle.std.proofs.lemmas.Bool.{not-true}
 use Rattle.std.specs.Prelude.{if◌then◌else◌}
 use Rattle.notation.specs.ChoiceLaws.{both_true, either}
-use Rattle.refusals.specs.Refusals.{refused_form, refused_full, refused_room}
+use Rattle.refusals.specs.declared.Refusal.{Refusal}
+use Rattle.refusals.specs.declared.Refusal.TheVariants.{Full, Room}
+use Rattle.refusals.specs.Refusals.{refused_form, is_refused}
 use Rattle.sizes.specs.Sizes.{sheet_bytes}
 use Rattle.split.specs.Split.{line_feed, before, split}
 use Rattle.split.specs.SplitLaws.{split-some, split_le}
@@ -13,9 +15,7 @@ use Rattle.debray_allocator.specs.declared.Answer.{Answer}
 use Rattle.debray_allocator.specs.State.{fresh_state}
 use Rattle.answers.specs.Answers.{text_of}
 use Rattle.answers.specs.AnswersLaws.{longest, text_short, end_short}
-use Rattle.answered.specs.declared.Answered.{Answered}
-use Rattle.answered.specs.declared.Answered.TheVariants.{Written, Refused}
-use Rattle.answered.specs.Answered.{filled_by}
+use Rattle.answered.specs.Answered.{Answered, refused, filled_by}
 use Rattle.answered.specs.AnsweredLaws.{Within, written_bound, refused_bound, filled_by-length}
 use Rattle.event_sheets.specs.EventSheets.{
   Ran,
@@ -29,6 +29,7 @@ use Rattle.event_sheets.specs.EventSheets.{
   line_ran,
   ran,
   sheet_ran,
+  refused_or,
   answered_by,
   answered,
   filled,
@@ -59,7 +60,7 @@ line_first a later =
     record {
       state = later.state;
       text = text_of a ++ later.text;
-      accepts = not (ltb 0 a.refusal) && later.accepts;
+      accepts = not (is_refused a.refusal) && later.accepts;
     }
 
 unfoldable pub carried_lines : State → List (List ℕ) → Carried
@@ -87,8 +88,8 @@ pub lines_in_order :
 unfolding carried_lines
 lines_in_order [] s number next others h = ap (λ k. ran s k (next ∷ others)) (sym (add-zero number))
 lines_in_order (line ∷ lines) s number next others h =
-    let b = both_true (not (ltb 0 (line_answer s line).refusal)) (carried_lines (line_answer s line).state lines).accepts h in
-    let good = ltb-false 0 (line_answer s line).refusal (not-true _ b.0) in
+    let b = both_true (not (is_refused (line_answer s line).refusal)) (carried_lines (line_answer s line).state lines).accepts h in
+    let good = not-true _ b.0 in
     let later = lines_in_order lines (line_answer s line).state (suc number) next others b.1 in
     let text = text_of (line_answer s line) in
     let n : suc number + length lines ≡ number + suc (length lines) = omega arith in
@@ -102,7 +103,7 @@ lines_in_order (line ∷ lines) s number next others h =
 pub first_bad_decides :
     (lines : List (List ℕ)) (s : State) (number : ℕ) (line next : List ℕ) (others : List (List ℕ))
     → (carried_lines s lines).accepts ≡ true
-    → 0 < (line_answer (carried_lines s lines).state line).refusal
+    → is_refused (line_answer (carried_lines s lines).state line).refusal ≡ true
     → ran s number (lines ++ (line ∷ (next ∷ others)))
     ≡ behind (carried_lines s lines).text (refused_at (number + length lines) (line_answer (carried_lines s lines).state line).refusal)
 first_bad_decides lines s number line next others h bad =
@@ -131,7 +132,7 @@ ran_line (left ∷ []) s number =
     (λ t. (if t then refused_at number refused_form else ended s.counters).line ≤ number + 1 - 1)
     [ true ↦ omega arith | false ↦ omega arith ]
 ran_line (line ∷ (next ∷ parts)) s number =
-    elim (ltb 0 (line_answer s line).refusal) as
+    elim (is_refused (line_answer s line).refusal) as
     (λ t. (if t then refused_at number (line_answer s line).refusal else behind (text_of (line_answer s line)) (ran (line_answer s line).state (suc number) (next ∷ parts))).line ≤ number + suc (suc (length parts)) - 1) [
       | true ↦ omega arith
       | false ↦ omega (arith, ran_line (next ∷ parts) (line_answer s line).state (suc number))
@@ -151,7 +152,7 @@ ran_short [] left s number =
 ran_short (next ∷ parts) line s number =
     let a = line_answer s line in
     let later = ran a.state (suc number) (next ∷ parts) in
-    either (λ (r : Ran). length r.text ≤ longest * suc (suc (length parts))) (ltb 0 a.refusal) (omega arith)
+    either (λ (r : Ran). length r.text ≤ longest * suc (suc (length parts))) (is_refused a.refusal) (omega arith)
     (omega (arith, length-append (text_of a) later.text, text_short a, ran_short parts next a.state (suc number)))
 
 pub sheet_short : (sheet : List ℕ) → length (sheet_ran sheet).text ≤ longest * (length sheet + 1)
@@ -165,11 +166,11 @@ sheet_short sheet =
 pub answered_by_within : (r : Ran) (room lines : ℕ) → r.line ≤ lines → Within room r.text lines (answered_by r room)
 unfolding answered_by
 answered_by_within r room lines h =
-    elim (ltb 0 r.refusal) as
-    (λ t. Within room r.text lines (if t then Refused r.line r.refusal else if ltb room (length r.text) then Refused 0 refused_room else Written (length r.text))) [
-      | true ↦ h
-      | false ↦ elim (ltb room (length r.text)) as
-          (λ t. ltb room (length r.text) ≡ t → Within room r.text lines (if t then Refused 0 refused_room else Written (length r.text))) [
+    elim r.refusal as
+    (λ refusal. Within room r.text lines (refused_or r.line refusal (if ltb room (length r.text) then refused 0 Room else Ok (length r.text)))) [
+      | Some refusal ↦ h
+      | None ↦ elim (ltb room (length r.text)) as
+          (λ t. ltb room (length r.text) ≡ t → Within room r.text lines (if t then refused 0 Room else Ok (length r.text))) [
             | true ↦ λ e. omega arith
             | false ↦ λ e. (ltb-false room (length r.text) e, refl)
           ]
@@ -180,7 +181,7 @@ pub answered_within : (sheet : List ℕ) (room : ℕ) → Within room (sheet_ran
 unfolding answered
 answered_within sheet room =
     elim (ltb sheet_bytes (length sheet)) as
-    (λ t. ltb sheet_bytes (length sheet) ≡ t → Within room (sheet_ran sheet).text (sheet_bytes + 1) (if t then Refused 0 refused_full else answered_by (sheet_ran sheet) room)) [
+    (λ t. ltb sheet_bytes (length sheet) ≡ t → Within room (sheet_ran sheet).text (sheet_bytes + 1) (if t then refused 0 Full else answered_by (sheet_ran sheet) room)) [
       | true ↦ λ e. omega arith
       | false ↦ λ e. answered_by_within (sheet_ran sheet) room (sheet_bytes + 1) (omega (arith, sheet-line sheet, ltb-false sheet_bytes (length sheet) e))
     ]
@@ -188,11 +189,11 @@ answered_within sheet room =
 
 -- the count of bytes is the text's, and there is room for it
 pub written_within :
-    (sheet : List ℕ) (room count : ℕ) → answered sheet room ≡ Written count
+    (sheet : List ℕ) (room count : ℕ) → answered sheet room ≡ Ok count
     → (count ≤ room) × (count ≡ length (sheet_ran sheet).text)
 written_within sheet room count e = written_bound room _ _ (answered sheet room) (answered_within sheet room) e
 
-pub line_within : (sheet : List ℕ) (room line refusal : ℕ) → answered sheet room ≡ Refused line refusal → line ≤ sheet_bytes + 1
+pub line_within : (sheet : List ℕ) (room line : ℕ) (refusal : Refusal) → answered sheet room ≡ refused line refusal → line ≤ sheet_bytes + 1
 line_within sheet room line refusal e = refused_bound room _ _ (answered sheet room) (answered_within sheet room) e
 
 -- the lent bytes stay as many
@@ -203,6 +204,6 @@ filled-length sheet out =
 
 -- rule 1.3: and a refusal leaves each of them as it was
 pub refused_untouched :
-    (sheet out : List ℕ) (line refusal : ℕ) → answered sheet (length out) ≡ Refused line refusal → filled sheet out ≡ out
+    (sheet out : List ℕ) (line : ℕ) (refusal : Refusal) → answered sheet (length out) ≡ refused line refusal → filled sheet out ≡ out
 unfolding filled
 refused_untouched sheet out line refusal e = ap (λ a. filled_by a (sheet_ran sheet).text out) e

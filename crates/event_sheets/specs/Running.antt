@@ -1,24 +1,23 @@
 -- One run over the lines of a sheet: how far a line gets, what the run answers, and what holds between two lines.
-use Rattle.std.specs.Prelude.{ℕ, ◌+◌, ◌*◌, ◌≤◌, ◌≡◌, List, ltb, length}
+use Rattle.std.specs.Prelude.{ℕ, ◌+◌, ◌*◌, ◌≤◌, ◌≡◌, List, ltb, length, Some, None}
 use Rattle.std.specs.Prelude.{if◌then◌else◌}
 use Rattle.refusals.specs.Refusals.{refused_form, refused_full}
 use Rattle.sizes.specs.Sizes.{sheet_bytes}
 use Rattle.split.specs.Split.{line_feed, before, split}
 use Rattle.printing.specs.Printing.{printed}
-use Rattle.event_lines.specs.declared.Line.{Line}
-use Rattle.event_lines.specs.declared.Line.TheVariants.{Malformed, Says}
+use Rattle.event_lines.specs.LineForms.{Line}
 use Rattle.event_lines.specs.EventLines.{line_says, line_list}
 use Rattle.debray_allocator.specs.declared.State.{State}
 use Rattle.debray_allocator.specs.declared.Answer.{Answer}
-use Rattle.debray_allocator.specs.DebrayAllocator.{by_refusal, with_counters, acted}
+use Rattle.debray_allocator.specs.DebrayAllocator.{by_refusal, answer_of, acted}
 use Rattle.answers.specs.AnswersLaws.{longest}
 use Rattle.event_sheets.specs.declared.Run.{Run}
 use Rattle.event_sheets.specs.EventSheets.{Ran, refused_at, ran, sheet_ran}
 
--- how far a line gets, the tables with it, also where it is refused
+-- how far a line gets, the state with it, also where it is refused
 abbrev pub said_acted : State → Line → List ℕ → Answer
-said_acted s Malformed list = with_counters s (by_refusal s.counters refused_form)
-said_acted s (Says event count) list = acted s event list
+said_acted s None list = answer_of s (by_refusal refused_form)
+said_acted s (Some said) list = acted s said.event list
 
 unfoldable pub line_acted : State → List ℕ → Answer
 line_acted s line = said_acted s (line_says line) (line_list line)

@@ -1,9 +1,10 @@
 -- Laws of a run: a line, what stands between two lines, and the end.
-use Rattle.std.specs.Prelude.{ℕ, suc, ◌+◌, ◌≤◌, ◌<◌, ◌≡◌, refl, List, [], ◌∷◌, ◌++◌, take, drop}
+use Rattle.std.specs.Prelude.{ℕ, suc, ◌+◌, ◌≤◌, ◌<◌, ◌≡◌, refl, true, false, Option, List, [], ◌∷◌, ◌++◌, take, drop, Some, None}
 use Rattle.std.proofs.Math.Path.{ap, sym}
 use Rattle.std.proofs.Common.{ap₂, ◌∙◌, add-one, add-zero, zero-add, arith, length-append, take-append-drop, take_all, lt-ltb, le-ltb}
 use Rattle.std.proofs.Math.ListN.{length}
-use Rattle.refusals.specs.Refusals.{accepted, refused_form, refused_full}
+use Rattle.refusals.specs.declared.Refusal.{Refusal}
+use Rattle.refusals.specs.Refusals.{accepted, refused_form, refused_full, is_refused}
 use Rattle.sizes.specs.Sizes.{sheet_bytes}
 use Rattle.split.specs.Split.{line_feed, before, after, split}
 use Rattle.split.specs.SplitLaws.{split_more, split-some, split-last, take-before, drop-before, after-length}
@@ -11,15 +12,14 @@ use Rattle.printing.specs.Printing.{printed, place_after, Put}
 use Rattle.printing.specs.PrintingLaws.{put_then, put-length}
 use Rattle.allocator_state.specs.declared.Counters.{Counters}
 use Rattle.events.specs.declared.Event.{Event}
-use Rattle.event_lines.specs.declared.Line.{Line}
-use Rattle.event_lines.specs.declared.Line.TheVariants.{Malformed, Says}
+use Rattle.event_lines.specs.LineForms.{Line, saying}
 use Rattle.event_lines.specs.EventLines.{line_says, line_list}
 use Rattle.event_lines.specs.EventLinesLaws.{list_le, list_read}
 use Rattle.debray_allocator.specs.declared.State.{State}
 use Rattle.debray_allocator.specs.declared.Acted.{Acted}
 use Rattle.debray_allocator.specs.declared.Answer.{Answer}
 use Rattle.debray_allocator.specs.State.{fresh_state}
-use Rattle.debray_allocator.specs.DebrayAllocator.{by_refusal, with_counters, refused_with, acted}
+use Rattle.debray_allocator.specs.DebrayAllocator.{by_refusal, answer_of, refused_with, acted}
 use Rattle.debray_allocator.specs.DebrayAllocatorLaws.{stepped-refused, stepped-accepted}
 use Rattle.answers.specs.declared.Adding.{Adding}
 use Rattle.answers.specs.Adding.{Added}
@@ -35,17 +35,17 @@ module _ (s : State) (line : List ℕ) where
   pub line-malformed :
       {said : Line} {a : Acted}
       → said ≡ line_says line
-      → said ≡ Malformed
-      → a ≡ by_refusal s.counters refused_form
-      → with_counters s a ≡ line_acted s line
+      → said ≡ None
+      → a ≡ by_refusal refused_form
+      → answer_of s a ≡ line_acted s line
   unfolding line_acted
-  line-malformed e m refused = ap (with_counters s) refused ∙ sym (ap (λ l. said_acted s l (line_list line)) (sym e ∙ m))
+  line-malformed e m refused = ap (answer_of s) refused ∙ sym (ap (λ l. said_acted s l (line_list line)) (sym e ∙ m))
 
   -- a line is carried out with the entries that were read
   pub line_said :
       (list : List ℕ) {said : Line} {event : Event} {count : ℕ} {read entries : List ℕ} {b : Answer}
       → said ≡ line_says line
-      → said ≡ Says event count
+      → said ≡ saying event count
       → read ≡ printed list 0 (line_list line)
       → entries ≡ take count read
       → length line ≤ length list
@@ -59,43 +59,43 @@ module _ (s : State) (line : List ℕ) where
 
 -- how far a line got decides whether it is refused or answered
 refused_said :
-    (s : State) (said : Line) (list : List ℕ) (b : Answer) → b ≡ said_acted s said list → 0 < b.refusal
+    (s : State) (said : Line) (list : List ℕ) (b : Answer) → b ≡ said_acted s said list → is_refused b.refusal ≡ true
     → said_answer s said list ≡ refused_with s b.refusal
 unfolding refused_with
-refused_said s Malformed list b e h = ap (refused_with s) (sym (ap (λ a. a.refusal) e))
-refused_said s (Says event count) list b e h = sym (stepped-refused s event list b e h)
+refused_said s None list b e h = ap (refused_with s) (sym (ap (λ a. a.refusal) e))
+refused_said s (Some said) list b e h = sym (stepped-refused s said.event list b e h)
 
 accepted_said :
-    (s : State) (said : Line) (list : List ℕ) (b : Answer) → b ≡ said_acted s said list → b.refusal ≤ 0
+    (s : State) (said : Line) (list : List ℕ) (b : Answer) → b ≡ said_acted s said list → is_refused b.refusal ≡ false
     → b ≡ said_answer s said list
-accepted_said s Malformed list b e h = absurd (omega (arith, ap (λ a. a.refusal) e))
-accepted_said s (Says event count) list b e h = stepped-accepted s event list b e h
+accepted_said s None list b e h = absurd (let never : true ≡ false = sym (ap (λ a. is_refused a.refusal) e) ∙ h in cc)
+accepted_said s (Some said) list b e h = stepped-accepted s said.event list b e h
 
 line_refused :
-    (s : State) (line : List ℕ) (b : Answer) → b ≡ line_acted s line → 0 < b.refusal
+    (s : State) (line : List ℕ) (b : Answer) → b ≡ line_acted s line → is_refused b.refusal ≡ true
     → line_answer s line ≡ refused_with s b.refusal
 unfolding line_answer line_acted
 line_refused s line b e h = refused_said s (line_says line) (line_list line) b e h
 
 line-accepted :
-    (s : State) (line : List ℕ) (b : Answer) → b ≡ line_acted s line → b.refusal ≤ 0 → b ≡ line_answer s line
+    (s : State) (line : List ℕ) (b : Answer) → b ≡ line_acted s line → is_refused b.refusal ≡ false → b ≡ line_answer s line
 unfolding line_answer line_acted
 line-accepted s line b e h = accepted_said s (line_says line) (line_list line) b e h
 
 -- ---- The lines one after the other
 
 module _ (number : ℕ) (others : State → Ran) where
-  pub ran-refused : (a : Answer) → 0 < a.refusal → line_ran number a others ≡ refused_at number a.refusal
+  pub ran-refused : (a : Answer) → is_refused a.refusal ≡ true → line_ran number a others ≡ refused_at number a.refusal
   unfolding line_ran
-  ran-refused a h = simp (lt-ltb _ _ h)
+  ran-refused a h = simp h
 
   pub ran-accepted :
-      (a : Answer) → a.refusal ≤ 0
+      (a : Answer) → is_refused a.refusal ≡ false
       → line_ran number a others ≡ behind (text_of a) (others a.state)
   unfolding line_ran
-  ran-accepted a h = simp (le-ltb _ _ h)
+  ran-accepted a h = simp h
 
-refused_refusal : (s : State) (refusal : ℕ) → (refused_with s refusal).refusal ≡ refusal
+refused_refusal : (s : State) (refusal : Option Refusal) → (refused_with s refusal).refusal ≡ refusal
 unfolding refused_with
 refused_refusal s refusal = refl
 
@@ -122,16 +122,16 @@ module _ (s : State) (number : ℕ) (rest : List ℕ) where
 
   -- a line that is refused, and one that is answered
   module _ (b : Answer) (h : length (before line_feed rest) < length rest) (e : b ≡ line_acted s (before line_feed rest)) where
-    ran_bad : 0 < b.refusal → ran s number (split line_feed rest) ≡ refused_at number b.refusal
+    ran_bad : is_refused b.refusal ≡ true → ran s number (split line_feed rest) ≡ refused_at number b.refusal
     ran_bad bad =
         let a = line_refused s (before line_feed rest) b e bad in
         let r : (line_answer s (before line_feed rest)).refusal ≡ b.refusal = ap (λ a. a.refusal) a ∙ refused_refusal s b.refusal in
         ran_more h
-        ∙ ran-refused number _ (line_answer s (before line_feed rest)) (omega arith)
+        ∙ ran-refused number _ (line_answer s (before line_feed rest)) (ap is_refused r ∙ bad)
         ∙ ap (refused_at number) r
 
     ran_good :
-        b.refusal ≤ 0
+        is_refused b.refusal ≡ false
         → ran s number (split line_feed rest)
         ≡ behind (text_of b) (ran b.state (suc number) (split line_feed (after line_feed rest)))
     ran_good good =
@@ -267,7 +267,7 @@ module _
     made = e ∙ ap (line_acted s) (taken ∙ ap (λ (k : ℕ). take k rest) g.ends ∙ take-before line_feed rest)
 
     pub going-refused :
-        0 < b.refusal
+        is_refused b.refusal ≡ true
         → (record { line = number; refusal = b.refusal; length = count } ≡ told (sheet_ran sheet))
         × (out ≡ printed empty from (sheet_ran sheet).text)
     going-refused bad =
@@ -280,7 +280,7 @@ module _
 
     pub going_on_lem :
         {scratch next scratch_after out_after : List ℕ} {adding : Adding} {last : ℕ}
-        → b.refusal ≤ 0
+        → is_refused b.refusal ≡ false
         → Added scratch out at (text_of b) adding scratch_after out_after
         → next ≡ drop (end + 1) rest
         → last ≡ length (before line_feed next)

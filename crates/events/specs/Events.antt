@@ -1,6 +1,7 @@
 -- What a line of an event sheet says, and what refuses it before it is carried out.
 use Rattle.std.specs.Prelude.{ℕ, Bool, true, false, ◌&&◌, ◌||◌, List, [], ◌∷◌, eqb, leb, ltb, length}
-use Rattle.std.specs.Prelude.{if◌then◌else◌}
+use Rattle.std.specs.Prelude.{if◌then◌else◌, Option}
+use Rattle.refusals.specs.declared.Refusal.{Refusal}
 use Rattle.refusals.specs.Refusals.{accepted, refused_order, refused_size, refused_full}
 use Rattle.sizes.specs.Sizes.{variables, uses, registers, counters, chunks, is_register, is_argument, is_chunk, is_count}
 use Rattle.forms.specs.declared.GenContext.{GenContext}
@@ -130,11 +131,11 @@ is_record Reset = false
 is_record Contents = false
 is_record ClearFree = false
 
-unfoldable pub refusal_by_size : Counters → Event → List ℕ → ℕ
+unfoldable pub refusal_by_size : Counters → Event → List ℕ → Option Refusal
 refusal_by_size c event list =
     if in_size c.records event list then if is_full c event (length list) then refused_full else accepted else refused_size
 
 -- rules 5.1 and 5.2: records stand first; one behind an event is refused for that, whatever else is wrong
-unfoldable pub refusal_before : Counters → Event → List ℕ → ℕ
+unfoldable pub refusal_before : Counters → Event → List ℕ → Option Refusal
 refusal_before c event list =
     if is_record event && ltb 0 c.events_seen then refused_order else refusal_by_size c event list

@@ -20,10 +20,11 @@ ghost use Rattle.events.specs.Events.{
 
 use allocator_state::Counters;
 use forms::{GenContext, Level};
+use refusals::Refusal;
 use sizes::{LAST_CHUNK, LAST_COUNTER, LAST_REGISTER, USES, VARIABLES};
 use targets::Target;
 
-// In the place of a head's variable: the argument is none.
+// In the place of a head's variable: the argument is none. A number, since an event's list is numbers, by the core's form.
 pub const NO_VARIABLE: u32 = VARIABLES as u32;
 
 // A record or an event. The uses of `Temp`, the arguments of `Head` and the variables of `Close` are lent beside it, as a
@@ -54,7 +55,7 @@ pub enum Event {
     ClearFree,
 }
 
-// What the entries of a list are.
+// What the entries of a list are. An enum and no function handed in, since the definition `entry_fits` speaks of each.
 #[derive(Clone, Copy)]
 pub enum Entries {
     Uses,
@@ -63,24 +64,23 @@ pub enum Entries {
 }
 
 // Whether a number stands for the head, or for a context of a chunk that there is.
+#[tactic(auto, unfolding(crate::specs::Events::is_context))]
 fn is_context(context: u32) -> bool
     ensures { result ≡ is_context context }
 {
     let first = temp_var_data::context_of(temp_var_data::mid_use(0, 0));
     let last = temp_var_data::context_of(temp_var_data::last_use(LAST_CHUNK, 0));
-    if context == 0 {
-        return true;
-    }
-    sizes::both(first <= context, context <= last)
+    context == 0 || first <= context && context <= last
 }
 
 // Whether a number stands for a use of a register that there is, in a chunk that there is.
+#[tactic(auto, unfolding(crate::specs::Events::is_use))]
 pub fn is_use(code: u32) -> bool
     ensures { result ≡ is_use code }
 {
     let register = temp_var_data::register_of(code);
     let context = temp_var_data::context_of(code);
-    sizes::both(sizes::is_register(register), is_context(context))
+    sizes::is_register(register) && is_context(context)
 }
 
 // Whether an entry of a list is inside its size, or names one of so many variables.
@@ -98,15 +98,7 @@ fn entry_fits(entries: Entries, records: u32, n: u32) -> bool
 fn all_fit(entries: Entries, records: u32, list: &[u32]) -> bool
     ensures { result ≡ all_fit entries records list.now }
 {
-    let mut i = 0;
-    while i < list.len() {
-        if entry_fits(entries, records, list[i]) {
-            i += 1;
-        } else {
-            return false;
-        }
-    }
-    true
+    list.iter().all(|n| entry_fits(entries, records, *n))
 }
 
 // Whether a context's chunk is inside its size.
@@ -122,36 +114,30 @@ fn is_in_size(records: u32, event: Event, list: &[u32]) -> bool
 {
     match event {
         Event::Temp(context, occurrences) => {
-            let uses_fit = all_fit(Entries::Uses, records, list);
-            sizes::both(
-                context_fits(context),
-                sizes::both(sizes::is_count(occurrences), uses_fit),
-            )
+            context_fits(context)
+                && sizes::is_count(occurrences)
+                && all_fit(Entries::Uses, records, list)
         }
         Event::Perm(occurrences) => sizes::is_count(occurrences),
         Event::Head => all_fit(Entries::Arguments, records, list),
         Event::Args(count) => sizes::is_argument(count),
-        Event::Var(_, _, context, v) => sizes::both(context_fits(context), v < records),
+        Event::Var(_, _, context, v) => context_fits(context) && v < records,
         Event::Anon(_, _, context) => context_fits(context),
-        Event::NonVar(_, context, cell) => sizes::both(
-            context_fits(context),
-            sizes::is_argument(cell),
-        ),
-        Event::Cut(v, chunk) => sizes::both(v < records, sizes::is_chunk(chunk)),
-        Event::Incr(v) => v < records,
-        Event::Free(chunk, v) => sizes::both(sizes::is_chunk(chunk), v < records),
-        Event::Safe(v) => v < records,
+        Event::NonVar(_, context, cell) => context_fits(context) && sizes::is_argument(cell),
+        Event::Cut(v, chunk) => v < records && sizes::is_chunk(chunk),
+        Event::Free(chunk, v) => sizes::is_chunk(chunk) && v < records,
+        Event::Incr(v) | Event::Safe(v) => v < records,
         Event::Give(r) => sizes::is_register(r),
         Event::Tail(tail) => tail <= 1,
         Event::Open(_, _, arms) => sizes::is_count(arms),
         Event::Close(_) => all_fit(Entries::Variables, records, list),
-        Event::Sets => true,
-        Event::Next => true,
-        Event::Arm(_, _) => true,
-        Event::Take => true,
-        Event::Reset => true,
-        Event::Contents => true,
-        Event::ClearFree => true,
+        Event::Sets
+        | Event::Next
+        | Event::Arm(_, _)
+        | Event::Take
+        | Event::Reset
+        | Event::Contents
+        | Event::ClearFree => true,
     }
 }
 
@@ -159,22 +145,14 @@ fn is_in_size(records: u32, event: Event, list: &[u32]) -> bool
 fn takes_argument(level: Level) -> bool
     ensures { result ≡ takes_argument level }
 {
-    match level {
-        Level::Root => true,
-        Level::Shallow => true,
-        Level::Deep => false,
-    }
+    matches!(level, Level::Root | Level::Shallow)
 }
 
 // Whether a term at a level is an argument of a goal or of the head.
 fn is_shallow(level: Level) -> bool
     ensures { result ≡ is_shallow level }
 {
-    match level {
-        Level::Root => false,
-        Level::Shallow => true,
-        Level::Deep => false,
-    }
+    matches!(level, Level::Shallow)
 }
 
 // Whether a line has a list too long, is one record too many, or
@@ -188,24 +166,23 @@ fn is_full(counters: Counters, event: Event, entries: usize) -> bool
         Event::Perm(_) => VARIABLES as u32 <= counters.records,
         Event::Head => (LAST_REGISTER as usize) < entries,
         Event::Close(_) => VARIABLES < entries,
-        Event::Var(_, level, _, _) => sizes::both(takes_argument(level), last),
-        Event::Anon(_, level, _) => sizes::both(takes_argument(level), last),
-        Event::NonVar(level, _, _) => sizes::both(is_shallow(level), last),
+        Event::Var(_, level, _, _) | Event::Anon(_, level, _) => takes_argument(level) && last,
+        Event::NonVar(level, _, _) => is_shallow(level) && last,
         Event::Next => last,
-        Event::Sets => false,
-        Event::Args(_) => false,
-        Event::Cut(_, _) => false,
-        Event::Incr(_) => false,
-        Event::Free(_, _) => false,
-        Event::Safe(_) => false,
-        Event::Give(_) => false,
-        Event::Tail(_) => false,
-        Event::Open(_, _, _) => false,
-        Event::Arm(_, _) => false,
-        Event::Take => false,
-        Event::Reset => false,
-        Event::Contents => false,
-        Event::ClearFree => false,
+        Event::Sets
+        | Event::Args(_)
+        | Event::Cut(_, _)
+        | Event::Incr(_)
+        | Event::Free(_, _)
+        | Event::Safe(_)
+        | Event::Give(_)
+        | Event::Tail(_)
+        | Event::Open(_, _, _)
+        | Event::Arm(_, _)
+        | Event::Take
+        | Event::Reset
+        | Event::Contents
+        | Event::ClearFree => false,
     }
 }
 
@@ -213,32 +190,29 @@ fn is_full(counters: Counters, event: Event, entries: usize) -> bool
 pub fn is_record(event: Event) -> bool
     ensures { result ≡ is_record event }
 {
-    match event {
-        Event::Temp(_, _) => true,
-        Event::Perm(_) => true,
-        _ => false,
-    }
+    matches!(event, Event::Temp(_, _) | Event::Perm(_))
 }
 
 // The refusal by a number outside its size, and then by what is full.
-fn refusal_by_size(counters: Counters, event: Event, list: &[u32]) -> u32
+fn refusal_by_size(counters: Counters, event: Event, list: &[u32]) -> Option<Refusal>
     ensures { result ≡ refusal_by_size counters event list.now }
 {
     match is_in_size(counters.records, event, list) {
         true => match is_full(counters, event, list.len()) {
-            true => refusals::FULL,
-            false => refusals::ACCEPTED,
+            true => Some(Refusal::Full),
+            false => None,
         },
-        false => refusals::SIZE,
+        false => Some(Refusal::Size),
     }
 }
 
 // The refusal of a line before it is carried out: a record after an event, then the sizes, then what is full.
-pub fn refusal_before(counters: Counters, event: Event, list: &[u32]) -> u32
+pub fn refusal_before(counters: Counters, event: Event, list: &[u32]) -> Option<Refusal>
     ensures { result ≡ refusal_before counters event list.now }
 {
-    match sizes::both(is_record(event), 0 < counters.events_seen) {
-        true => refusals::ORDER,
+    let too_late = is_record(event) && 0 < counters.events_seen;
+    match too_late {
+        true => Some(Refusal::Order),
         false => refusal_by_size(counters, event, list),
     }
 }

@@ -1,9 +1,9 @@
 -- Laws of the numbers: every answer to a sheet or a call fits into one.
-use Rattle.std.specs.Prelude.{ℕ, ◌≤◌, ◌<◌, ◌^◌, ◌+◌, ◌≡◌, refl, Bool, List}
+use Rattle.std.specs.Prelude.{ℕ, ◌≤◌, ◌<◌, ◌^◌, ◌+◌, ◌≡◌, refl, Bool, List, Ok, Err}
 use Rattle.std.proofs.Common.{sym, subst, arith}
+use Rattle.refusals.specs.declared.Refusal.{Refusal}
 use Rattle.sizes.specs.Sizes.{sheet_bytes}
-use Rattle.answered.specs.declared.Answered.{Answered}
-use Rattle.answered.specs.declared.Answered.TheVariants.{Written, Refused}
+use Rattle.answered.specs.Answered.{Answered, refused}
 use Rattle.answered.specs.AnsweredLaws.{Within}
 use Rattle.debray_allocator.specs.declared.State.{State}
 use Rattle.event_calls.specs.EventCalls.{called, last_answered}
@@ -19,11 +19,11 @@ use Rattle.fenomirask.specs.Numbers.{Fits}
 -- an answer fits, if its count stays within the room and its line within the sheet
 within_fits :
     (room : ℕ) (a : Answered) → room < 2 ^ 63
-    → ((count : ℕ) → a ≡ Written count → count ≤ room)
-    → ((line refusal : ℕ) → a ≡ Refused line refusal → line ≤ sheet_bytes + 1)
+    → ((count : ℕ) → a ≡ Ok count → count ≤ room)
+    → ((line : ℕ) (refusal : Refusal) → a ≡ refused line refusal → line ≤ sheet_bytes + 1)
     → Fits a
-within_fits room (Written count) h counts lines = omega (arith, counts count refl)
-within_fits room (Refused line refusal) h counts lines = lines line refusal refl
+within_fits room (Ok count) h counts lines = omega (arith, counts count refl)
+within_fits room (Err told) h counts lines = lines told.line told.refusal refl
 
 module _ (sheet : List ℕ) (room : ℕ) (h : room < 2 ^ 63) {a : Answered} where
   pub events_fits : a ≡ answered_events sheet room → Fits a
@@ -50,8 +50,8 @@ module _ (sheet : List ℕ) (room : ℕ) (h : room < 2 ^ 63) {a : Answered} wher
 -- the same of an answer to a call, whose line is 1 at most
 call-fits_within :
     (room : ℕ) (text : List ℕ) (lines : ℕ) (a : Answered) → room < 2 ^ 63 → lines ≤ 1 → Within room text lines a → Fits a
-call-fits_within room text lines (Written count) h few w = omega (arith, w.0)
-call-fits_within room text lines (Refused line refusal) h few w = omega (arith, w)
+call-fits_within room text lines (Ok count) h few w = omega (arith, w.0)
+call-fits_within room text lines (Err told) h few w = omega (arith, w)
 
 module _ (state : State) (room : ℕ) (h : room < 2 ^ 63) {a : Answered} where
   pub call_fits : (bytes : List ℕ) → a ≡ (called state bytes room).answered → Fits a

@@ -3,6 +3,7 @@
 
 ghost use Rattle.std.specs.Prelude.{◌+◌, ◌*◌, ◌^◌, ◌<◌, ◌≤◌, ◌≡◌, pos, neg_ℤ, length};
 ghost use Rattle.sizes.specs.Sizes.{sheet_bytes};
+ghost use Rattle.refusals.specs.Refusals.{number_of as refusal_number};
 ghost use Rattle.answered.specs.Answered.{number_of};
 ghost use Rattle.debray_allocator.specs.State.{fresh_state};
 ghost use Rattle.event_calls.specs.EventCalls.{called, call_filled, last_answered, last_filled};
@@ -11,7 +12,7 @@ ghost use Rattle.bundles.specs.Bundles.{answered as answered_bundle, filled as f
 ghost use Rattle.check_sheets.specs.CheckSheets.{answered as answered_check, filled as filled_check, ByVerdict};
 ghost use Rattle.fenomirask.specs.Numbers.{Fits};
 
-use answered::Answered;
+use answered::{Answered, Refused};
 use debray_allocator::State;
 
 // The state after a call, and the number for the host.
@@ -30,11 +31,11 @@ fn signed(count: usize) -> i64
 }
 
 // A refusal as a signed number, −(16·line + refusal).
-fn signed_refusal(line: usize, refusal: u32) -> i64
-    requires { line ≤ sheet_bytes + 1 }
-    ensures { result ≡ neg_ℤ (pos (16 * line + refusal)) }
+fn signed_refusal(refused: Refused) -> i64
+    requires { refused.line ≤ sheet_bytes + 1 }
+    ensures { result ≡ neg_ℤ (pos (16 * refused.line + refusal_number refused.refusal)) }
 {
-    let told = signed(16 * line + (refusal as usize));
+    let told = signed(16 * refused.line + (refused.refusal.number() as usize));
     -told
 }
 
@@ -44,8 +45,8 @@ fn number_of(answered: Answered) -> i64
     ensures { result ≡ number_of answered }
 {
     match answered {
-        Answered::Written(count) => signed(count),
-        Answered::Refused(line, refusal) => signed_refusal(line, refusal),
+        Ok(count) => signed(count),
+        Err(refused) => signed_refusal(refused),
     }
 }
 

@@ -1,4 +1,5 @@
 // The functions of `fenomirask` under the names by which a C host calls them, each with the promises of the function it calls.
+// A function for each, since a C host calls it by its name.
 #![tactic(auto)]
 
 ghost use Rattle.std.specs.Prelude.{◌≡◌, length};

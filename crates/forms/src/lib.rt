@@ -33,8 +33,7 @@ pub fn chunk_num(context: GenContext) -> u32
 {
     match context {
         GenContext::Head => 0,
-        GenContext::Mid(chunk) => chunk,
-        GenContext::Last(chunk) => chunk,
+        GenContext::Mid(chunk) | GenContext::Last(chunk) => chunk,
     }
 }
 

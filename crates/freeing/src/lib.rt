@@ -3,18 +3,19 @@
 #![tactic(auto)]
 
 ghost use Rattle.std.specs.Prelude.{◌≡◌};
-ghost use Rattle.freeing.specs.Freeing.{release, pushed_free, release_of, freed, running_at, counted_or_freed};
+ghost use Rattle.freeing.specs.Freeing.{release, pushed_free, release_of, freed, counted_or_freed};
 
 use allocator_state::Counters;
 use perm_free_list::{FreedSlot, PermFreeList};
+use refusals::Refusal;
 use sizes::FREED_SLOTS;
 use variable_records::{PermVarAllocation, Records, VarAlloc, VariableRecord};
 
-// The counters afterwards, or a refusal, 0 where there is none.
+// The counters afterwards, and a refusal, if there is one. A struct and no Result, since a refused step tells its counters, too.
 #[derive(Clone, Copy)]
 pub struct Released {
     pub counters: Counters,
-    pub refusal: u32,
+    pub refusal: Option<Refusal>,
 }
 
 // Puts a variable into the queue of freed slots.
@@ -30,7 +31,7 @@ fn add_perm_to_free_list(
     if FREED_SLOTS as u32 <= count {
         return Released {
             counters,
-            refusal: refusals::FULL,
+            refusal: Some(Refusal::Full),
         };
     }
     perm_free_list::put_entry(
@@ -39,11 +40,12 @@ fn add_perm_to_free_list(
         count,
         FreedSlot { chunk, variable: v },
     );
-    let mut pushed = counters;
-    pushed.freed_slots = count + 1;
     Released {
-        counters: pushed,
-        refusal: refusals::ACCEPTED,
+        counters: Counters {
+            freed_slots: count + 1,
+            ..counters
+        },
+        refusal: None,
     }
 }
 
@@ -58,34 +60,16 @@ pub fn free_var(
     ensures { release_of records.new list.new result ≡ freed counters records.old list.old chunk v }
 {
     let variable = variable_records::load(records, v);
-    let allocation = variable.allocation;
-    match allocation {
-        VarAlloc::Temp {
-            term_loc: _,
-            temp_reg: _,
-            safety: _,
-            to_perm_var_num: _,
-        } => Released {
+    match variable.allocation {
+        VarAlloc::Temp { .. } => Released {
             counters,
-            refusal: refusals::ACCEPTED,
+            refusal: None,
         },
         VarAlloc::Perm(slot, _) => {
             let pending = VarAlloc::Perm(slot, PermVarAllocation::Pending);
             variable_records::store(records, v, variable.allocated(pending));
             add_perm_to_free_list(counters, list, chunk, v)
         }
-    }
-}
-
-// The record with its running count at that number.
-fn counted(variable: VariableRecord, running_count: u32) -> VariableRecord
-    ensures { result ≡ running_at variable running_count }
-{
-    let allocation = variable.allocation;
-    VariableRecord {
-        allocation,
-        num_occurrences: variable.num_occurrences,
-        running_count,
     }
 }
 
@@ -101,10 +85,14 @@ pub fn count_or_free(
 {
     let variable = variable_records::load(records, v);
     if variable.running_count < variable.num_occurrences {
-        variable_records::store(records, v, counted(variable, variable.running_count + 1));
+        let counted = VariableRecord {
+            running_count: variable.running_count + 1,
+            ..variable
+        };
+        variable_records::store(records, v, counted);
         return Released {
             counters,
-            refusal: refusals::ACCEPTED,
+            refusal: None,
         };
     }
     free_var(counters, records, list, chunk, v)

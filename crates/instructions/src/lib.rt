@@ -27,7 +27,8 @@ pub enum Instruction {
     UnifyLocalValue(RegType),
 }
 
-// An instruction as its number, its place and its argument. Those from 5 to 10 have no argument, and 0 stands for it.
+// An instruction as its number, its place and its argument. Those from 5 to 10 have no argument, and 0 stands for it: what is
+// printed behind the place is chosen by ranges of the number.
 #[derive(Clone, Copy)]
 pub struct Code {
     pub number: u32,
@@ -35,26 +36,28 @@ pub struct Code {
     pub argument: u32,
 }
 
-// The instruction's number, place and argument.
-pub fn code_of(instruction: Instruction) -> Code
-    ensures { result ≡ code_of instruction }
-{
-    match instruction {
-        Instruction::GetVariable(place, k) => numbered(0, place, k),
-        Instruction::GetValue(place, k) => numbered(1, place, k),
-        Instruction::PutVariable(place, k) => numbered(2, place, k),
-        Instruction::PutValue(place, k) => numbered(3, place, k),
-        Instruction::PutUnsafeValue(slot, k) => numbered(4, RegType::Perm(slot), k),
-        Instruction::SetVariable(place) => numbered(5, place, 0),
-        Instruction::SetValue(place) => numbered(6, place, 0),
-        Instruction::SetLocalValue(place) => numbered(7, place, 0),
-        Instruction::UnifyVariable(place) => numbered(8, place, 0),
-        Instruction::UnifyValue(place) => numbered(9, place, 0),
-        Instruction::UnifyLocalValue(place) => numbered(10, place, 0),
+impl Instruction {
+    // The instruction's number, place and argument.
+    pub fn code(self) -> Code
+        ensures { result ≡ code_of self }
+    {
+        match self {
+            Instruction::GetVariable(place, k) => numbered(0, place, k),
+            Instruction::GetValue(place, k) => numbered(1, place, k),
+            Instruction::PutVariable(place, k) => numbered(2, place, k),
+            Instruction::PutValue(place, k) => numbered(3, place, k),
+            Instruction::PutUnsafeValue(slot, k) => numbered(4, RegType::Perm(slot), k),
+            Instruction::SetVariable(place) => numbered(5, place, 0),
+            Instruction::SetValue(place) => numbered(6, place, 0),
+            Instruction::SetLocalValue(place) => numbered(7, place, 0),
+            Instruction::UnifyVariable(place) => numbered(8, place, 0),
+            Instruction::UnifyValue(place) => numbered(9, place, 0),
+            Instruction::UnifyLocalValue(place) => numbered(10, place, 0),
+        }
     }
 }
 
-// A number, a place and an argument as one code.
+// A number, a place and an argument as one code: so each row above stays one line.
 fn numbered(number: u32, place: RegType, argument: u32) -> Code
     ensures { result ≡ numbered number place argument }
 {
@@ -69,7 +72,7 @@ fn numbered(number: u32, place: RegType, argument: u32) -> Code
 pub fn put_instruction(out: &mut [u8], at: usize, instruction: Instruction) -> usize
     ensures { Put out.old at (instruction_text instruction) result out.new }
 {
-    let code = code_of(instruction);
+    let code = instruction.code();
     let number = code.number;
     let place = code.place;
     let named = put_name(out, at, number);
@@ -77,7 +80,7 @@ pub fn put_instruction(out: &mut [u8], at: usize, instruction: Instruction) -> u
     match number {
         0..=4 => put_argument(out, placed, code.argument),
         5..=10 => printing::put_byte(out, placed, LINE_FEED),
-        _ => placed,
+        _ => unreachable!(),
     }
 }
 
@@ -90,7 +93,7 @@ pub fn put_at_line(out: &mut [u8], at: usize, place: RegType) -> usize
     printing::put_byte(out, placed, LINE_FEED)
 }
 
-// The word of an instruction's number.
+// The word of an instruction's number, chosen by `match`.
 fn put_name(out: &mut [u8], at: usize, number: u32) -> usize
     requires { number < length words }
     ensures { Put out.old at (word_of number) result out.new }
@@ -107,7 +110,7 @@ fn put_name(out: &mut [u8], at: usize, number: u32) -> usize
         8 => printing::put_word(out, at, b"unify_variable"),
         9 => printing::put_word(out, at, b"unify_value"),
         10 => printing::put_word(out, at, b"unify_local_value"),
-        _ => at,
+        _ => unreachable!(),
     }
 }
 

@@ -32,7 +32,7 @@ unfolding is_temporary
 kinds_now s full =
     record {
       kept = record { full = full; holds = λ w h. holds_so (kinds_of s) w (record_at s.records w).allocation (λ known. refl) tt };
-      uses = all_plain _ (λ n. tt) s.use_sets;
+      uses = all_plain _ (λ n. tt) s.sets.use_sets;
       freed = all_plain _ (λ n. tt) s.freed_registers;
     }
 

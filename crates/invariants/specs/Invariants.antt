@@ -36,7 +36,7 @@ PlaceFits w variable = Fitting (number_of_place (place_of variable))
 -- so is the place of every record of a full table, the register of every use, and every register that was freed
 pub record PlacesFit (s : State) : Type 0 where
   pub places : Every PlaceFits s.records
-  pub uses : All (λ code. Fitting (register_of code)) s.use_sets
+  pub uses : All (λ code. Fitting (register_of code)) s.sets.use_sets
   pub freed : All Fitting s.freed_registers
 
 -- of any kind, in a place up to 63

@@ -1,6 +1,7 @@
 -- Every record stays of its kind, in a good place, where a term gets a place and where a variable is freed.
 use Prim.Native.Nat.{ℕ, zero, suc, ◌+◌, ◌%◌}
-use Rattle.std.specs.Prelude.{false, leb, ltb, get_or}
+use Rattle.std.specs.Bool.{then_some}
+use Rattle.std.specs.Prelude.{Option, Some, None, Bool, true, false, leb, ltb, get_or}
 use mathlib.Core.List.{List, [], ◌∷◌}
 use Rattle.std.proofs.Common.{ltb-false}
 use Rattle.notation.specs.ChoiceLaws.{either, by_test}
@@ -13,13 +14,12 @@ use Rattle.variable_records.specs.Records.{allocated}
 use Rattle.variable_records.specs.Rows.{record_at, record_put}
 use Rattle.perm_free_list.specs.declared.FreedSlot.{FreedSlot}
 use Rattle.perm_free_list.specs.declared.Looked.{Looked}
-use Rattle.perm_free_list.specs.PermFreeList.{pending_slot, free_slot, entries, looked}
+use Rattle.perm_free_list.specs.declared.Taken.{Taken}
+use Rattle.perm_free_list.specs.PermFreeList.{pending_slot, free_slot, entries, given_or, looked}
 use Rattle.allocator_state.specs.declared.Counters.{Counters}
-use Rattle.choice.specs.declared.Chosen.{Chosen}
-use Rattle.choice.specs.declared.Chosen.TheVariants.{Register, NoRegister}
 use Rattle.choice.specs.Choice.{in_use, least_outside}
 use Rattle.allocation.specs.declared.Popped.{Popped}
-use Rattle.allocation.specs.Allocation.{popped, searched, non_var_by, non_var, without_front, slot_given, slot_taken, Placement, new_slot, slot_found, perm_placed}
+use Rattle.allocation.specs.Allocation.{popped, searched, non_var_by, non_var, without_front, slot_given, slot_taken, Placement, new_slot, slot_placed, slot_found, perm_placed}
 use Rattle.freeing.specs.Freeing.{ReleaseOf, freed_as, freed, running_at, counted_or_freed}
 use Rattle.invariants.specs.Lists.{All, all_at}
 use Rattle.invariants.specs.Kept.{Wanted, Holds, Kept, kept_at, kept_put, kept_placed, none_good}
@@ -36,15 +36,15 @@ module _ (k : Wanted) where
       (popped_good c list left all)
       (all_at k.Good list (left % freed_registers) 0 all (none_good k))
 
-  searched_good : (c : Counters) (choice : Chosen) → GoodChoice k choice → GoodChoice k (searched c choice).chosen
-  searched_good c (Register r) g = g
-  searched_good c NoRegister g = tt
+  searched_good : (c : Counters) (choice : Option ℕ) → GoodChoice k choice → GoodChoice k (searched c choice).chosen
+  searched_good c (Some r) g = g
+  searched_good c None g = tt
 
   non_var_by_good :
-      (c : Counters) (left : ℕ) (choice : Chosen) → GoodChoice k choice
+      (c : Counters) (left : ℕ) (choice : Option ℕ) → GoodChoice k choice
       → GoodChoice k (non_var_by c left choice).chosen
-  non_var_by_good c left (Register r) g = g
-  non_var_by_good c left NoRegister g = searched_good c (least_outside c) (outside_good k c)
+  non_var_by_good c left (Some r) g = g
+  non_var_by_good c left None g = searched_good c (least_outside c) (outside_good k c)
 
   pub non_var_good : (c : Counters) (list : List ℕ) → All k.Good list → GoodChoice k (non_var c list).chosen
   unfolding non_var
@@ -54,24 +54,39 @@ module _ (k : Wanted) where
 
   -- ---- A permanent variable
 
-  pending_good : (w : ℕ) (allocation : VarAlloc) → Holds k w allocation → k.Good (pending_slot allocation)
-  pending_good w (Temp context register safety to_perm) h = none_good k
-  pending_good w (Perm slot (Done shallow deep)) h = none_good k
-  pending_good w (Perm slot Pending) h = h.1
+  some_good : (t : Bool) (slot : ℕ) → k.Good slot → GoodChoice k (then_some t slot)
+  some_good true slot good = good
+  some_good false slot good = tt
+
+  pending_good : (w : ℕ) (allocation : VarAlloc) → Holds k w allocation → GoodChoice k (pending_slot allocation)
+  pending_good w (Temp context register safety to_perm) h = tt
+  pending_good w (Perm slot (Done shallow deep)) h = tt
+  pending_good w (Perm slot Pending) h = some_good (ltb 0 slot) slot h.1
+
+  -- a slot that is taken is good
+  abbrev GoodTaken : Option Taken → Type 0
+  GoodTaken (Some taken) = k.Good taken.slot
+  GoodTaken None = Unit {0}
+
+  given_good :
+      (slot : Option ℕ) (dropped owner : ℕ) (rest : Looked) → GoodChoice k slot → GoodTaken rest.taken
+      → GoodTaken (given_or slot dropped owner rest).taken
+  given_good (Some slot) dropped owner rest good behind = good
+  given_good None dropped owner rest good behind = behind
 
   module _ {records : List ℕ} (every : Kept k records) where
-    free_slot_good : (v : ℕ) → k.Good (free_slot records v)
+    free_slot_good : (v : ℕ) → GoodChoice k (free_slot records v)
     unfolding free_slot
     free_slot_good v = pending_good (v % variables) (record_at records v).allocation (kept_at k every v)
 
     -- the slot found is the old owner's
-    looked_good : (chunk dropped : ℕ) (queue : List FreedSlot) → k.Good (looked records chunk dropped queue).slot
+    looked_good : (chunk dropped : ℕ) (queue : List FreedSlot) → GoodTaken (looked records chunk dropped queue).taken
     unfolding looked
-    looked_good chunk dropped [] = none_good k
+    looked_good chunk dropped [] = tt
     looked_good chunk dropped (entry ∷ rest) =
-        let GoodSlot : Looked → Type 0 = λ found. k.Good found.slot in
-        either GoodSlot (leb chunk entry.chunk) (none_good k)
-        (either GoodSlot (ltb 0 (free_slot records entry.variable)) (free_slot_good entry.variable)
+        either (λ (found : Looked). GoodTaken found.taken) (leb chunk entry.chunk) tt
+        (given_good (free_slot records entry.variable) (dropped + 1) entry.variable (looked records chunk (dropped + 1) rest)
+        (free_slot_good entry.variable)
         (looked_good chunk (dropped + 1) rest))
 
     pub slot_given_keeps : (v slot : ℕ) → k.Kind (v % variables) false → k.Good slot → Kept k (slot_given records v slot)
@@ -96,12 +111,14 @@ module _ (k : Wanted) where
         (λ e. (let good = k.small c.perm_lb (ltb-false registers c.perm_lb e) in
         (slot_given_keeps every v c.perm_lb permanent good, good)))
 
-    slot_found_good : (found : Looked) (c : Counters) → k.Good found.slot → GoodPlacement (slot_found found c records v)
+    slot_placed_good : (taken : Option Taken) (c : Counters) → GoodTaken taken → GoodPlacement (slot_placed taken c records v)
+    slot_placed_good (Some taken) c good =
+        (slot_given_keeps (slot_taken_keeps every taken.owner) v taken.slot permanent good, good)
+    slot_placed_good None c good = new_slot_good c
+
+    slot_found_good : (found : Looked) (c : Counters) → GoodTaken found.taken → GoodPlacement (slot_found found c records v)
     unfolding slot_found
-    slot_found_good found c good =
-        either GoodPlacement (ltb 0 found.slot)
-        (slot_given_keeps (slot_taken_keeps every found.owner) v found.slot permanent good, good)
-        (new_slot_good (without_front c found.dropped))
+    slot_found_good found c good = slot_placed_good found.taken (without_front c found.dropped) good
 
     pub perm_placed_good : (c : Counters) (list : List ℕ) (chunk : ℕ) → GoodPlacement (perm_placed c records list v chunk)
     unfolding perm_placed

@@ -1,8 +1,8 @@
 -- Every record stays of its kind, in a good place, after `take` and `close`.
-use Rattle.std.specs.Prelude.{ℕ, ◌%◌, List, eqb, leb}
+use Rattle.std.specs.Prelude.{ℕ, ◌%◌, List, leb}
 use Rattle.notation.specs.ChoiceLaws.{either}
 use Rattle.sizes.specs.Sizes.{variables}
-use Rattle.refusals.specs.Refusals.{accepted}
+use Rattle.refusals.specs.Refusals.{is_refused}
 use Rattle.variable_records.specs.declared.VarAlloc.{VarAlloc}
 use Rattle.variable_records.specs.declared.VarAlloc.TheVariants.{Temp, Perm}
 use Rattle.variable_records.specs.Records.{allocated}
@@ -56,19 +56,19 @@ module _ (k : Wanted) where
     unfolding records_popped
     popped_keeps opened depth vs =
         let met = left_on_top records rows sets opened depth vs in
-        either (Kept k) (eqb (close_refusal (popped records rows sets opened depth vs)) accepted)
+        either (Kept k) (is_refused (close_refusal (popped records rows sets opened depth vs)))
+        every
         (each_keeps (Kept k) Any (variable_closed met) (λ records v any. closed_keeps met records v) records vs
         (all_plain Any (λ v. tt) vs) every)
-        every
 
     taken_keeps : (opened : ℕ) → Kept k (records_taken records rows sets opened)
     unfolding records_taken
     taken_keeps opened =
         let vs = to_take records rows sets opened in
-        either (Kept k) (eqb (take_refusal (taken records rows sets opened)) accepted)
+        either (Kept k) (is_refused (take_refusal (taken records rows sets opened)))
+        every
         (each_keeps (Kept k) Any variable_pended (λ records v any. pended_keeps records v) records vs
         (all_plain Any (λ v. tt) vs) every)
-        every
 
     pub close_keeps : (c : Counters) (depth : ℕ) (vs : List ℕ) → Kept k (closed c records rows sets depth vs).records
     unfolding closed

@@ -9,9 +9,10 @@ use Rattle.variable_records.specs.declared.PermVarAllocation.TheVariants.{Pendin
 use Rattle.variable_records.specs.declared.VarAlloc.TheVariants.{Perm}
 use Rattle.variable_records.specs.declared.VariableRecord.{VariableRecord}
 use Rattle.temp_var_data.specs.Uses.{register_of, takes_use, use_sets_with}
+use Rattle.restricting_sets.specs.declared.VariableSets.{VariableSets}
 use Rattle.allocator_state.specs.declared.Counters.{Counters}
 use Rattle.clause_records.specs.ClauseRecords.{Rows, rows_put, fresh, Recording, perm_recorded}
-use Rattle.clause_records.specs.ClauseRecords.{UseTables, use_tables, with_use, uses_given, TempRecording, fresh_temp, temp_recorded}
+use Rattle.clause_records.specs.ClauseRecords.{with_use, uses_given, fresh_temp, temp_recorded, populated}
 use Rattle.invariants.specs.Lists.{all_set, each_keeps}
 use Rattle.invariants.specs.Kept.{Wanted, Holds, Kept, kept_put, none_good}
 use Rattle.invariants.specs.OfEvacuation.{GoodUses}
@@ -37,33 +38,47 @@ module _ (k : Wanted) where
         (λ e. rows_put_keeps (fresh (Perm 0 Pending) occurrences) (new (leb-false variables c.records e) false, none_good k))
 
     pub temp_recorded_keeps :
-        (use_sets : List ℕ) (context : GenContext) (occurrences : ℕ) (codes : List ℕ)
-        → Kept k (temp_recorded c t use_sets context occurrences codes).tables.records
+        (context : GenContext) (occurrences : ℕ) (codes : List ℕ)
+        → Kept k (temp_recorded c t context occurrences codes).tables.records
     unfolding temp_recorded
-    temp_recorded_keeps use_sets context occurrences codes =
-        by_test (λ (r : TempRecording). Kept k r.tables.records) (leb variables c.records) (λ e. every)
+    temp_recorded_keeps context occurrences codes =
+        by_test (λ (r : Recording). Kept k r.tables.records) (leb variables c.records) (λ e. every)
         (λ e. rows_put_keeps (fresh_temp context occurrences) (new (leb-false variables c.records e) true, none_good k))
 
   -- ---- Its uses
 
   use_good :
-      (v : ℕ) (t : UseTables) (code : ℕ) → k.Good (register_of code) → GoodUses k t.use_sets
-      → GoodUses k (with_use v t code).use_sets
+      (v : ℕ) (s : VariableSets) (code : ℕ) → k.Good (register_of code) → GoodUses k s.use_sets
+      → GoodUses k (with_use v s code).use_sets
   unfolding use_sets_with
-  use_good v t code good all =
-      either (GoodUses k) (takes_use t.use_sets t.use_counts v code) (all_set (λ code. k.Good (register_of code)) t.use_sets _ code all good) all
+  use_good v s code good all =
+      either (GoodUses k) (takes_use s.use_sets s.use_counts v code) (all_set (λ code. k.Good (register_of code)) s.use_sets _ code all good) all
 
   uses_given_good :
-      (v : ℕ) (t : UseTables) (codes : List ℕ) → GoodUses k codes → GoodUses k t.use_sets
-      → GoodUses k (uses_given t v codes).use_sets
+      (v : ℕ) (s : VariableSets) (codes : List ℕ) → GoodUses k codes → GoodUses k s.use_sets
+      → GoodUses k (uses_given s v codes).use_sets
   unfolding uses_given
-  uses_given_good v t codes good all =
-      each_keeps (λ (t : UseTables). GoodUses k t.use_sets) (λ code. k.Good (register_of code)) (with_use v) (use_good v) t codes good all
+  uses_given_good v s codes good all =
+      each_keeps (λ (s : VariableSets). GoodUses k s.use_sets) (λ code. k.Good (register_of code)) (with_use v) (use_good v) s codes good all
+
+  pub perm_recorded_good :
+      (c : Counters) (t : Rows) (occurrences : ℕ) → GoodUses k t.sets.use_sets
+      → GoodUses k (perm_recorded c t occurrences).tables.sets.use_sets
+  unfolding perm_recorded rows_put
+  perm_recorded_good c t occurrences all =
+      either (λ (r : Recording). GoodUses k r.tables.sets.use_sets) (leb variables c.records) all all
 
   pub temp_recorded_good :
-      (c : Counters) (t : Rows) (use_sets : List ℕ) (context : GenContext) (occurrences : ℕ) (codes : List ℕ) → GoodUses k codes → GoodUses k use_sets
-      → GoodUses k (temp_recorded c t use_sets context occurrences codes).use_sets
-  unfolding temp_recorded
-  temp_recorded_good c t use_sets context occurrences codes good all =
-      either (λ (r : TempRecording). GoodUses k r.use_sets) (leb variables c.records) all
-      (uses_given_good c.records (use_tables use_sets (rows_put t c.records (fresh_temp context occurrences)).use_counts) codes good all)
+      (c : Counters) (t : Rows) (context : GenContext) (occurrences : ℕ) (codes : List ℕ) → GoodUses k codes → GoodUses k t.sets.use_sets
+      → GoodUses k (temp_recorded c t context occurrences codes).tables.sets.use_sets
+  unfolding temp_recorded rows_put
+  temp_recorded_good c t context occurrences codes good all =
+      either (λ (r : Recording). GoodUses k r.tables.sets.use_sets) (leb variables c.records) all
+      (uses_given_good c.records (rows_put t c.records (fresh_temp context occurrences)).sets codes good all)
+
+  -- ---- `sets`
+
+  pub populated_good :
+      (c : Counters) (records : List ℕ) (s : VariableSets) → GoodUses k s.use_sets → GoodUses k (populated c records s).use_sets
+  unfolding populated
+  populated_good c records s all = all

@@ -1,5 +1,5 @@
 -- Every record stays of its kind, in a good place, where an argument's register is emptied: the register chosen is good.
-use Rattle.std.specs.Prelude.{ℕ, suc, ◌-◌, ◌*◌, min, Bool, eqb, leb, get_or, drop}
+use Rattle.std.specs.Prelude.{Option, Some, None, ℕ, suc, ◌-◌, ◌*◌, min, Bool, eqb, leb, get_or, drop}
 use Rattle.std.proofs.Math.Bool.{not}
 use mathlib.Core.List.{List, [], ◌∷◌, map}
 use Rattle.std.proofs.Common.{arith}
@@ -12,20 +12,19 @@ use Rattle.shallow_temp_mappings.specs.Mappings.{mapped_at}
 use Rattle.register_sets.specs.RegisterSets.{set_at}
 use Rattle.temp_var_data.specs.Uses.{register_of, uses_of, contains_use, use_code, last_context}
 use Rattle.allocator_state.specs.declared.Counters.{Counters}
-use Rattle.choice.specs.declared.Chosen.{Chosen}
-use Rattle.choice.specs.declared.Chosen.TheVariants.{Register, NoRegister}
 use Rattle.choice.specs.Choice.{in_use, is_free, first, registers_from, first_unused, least_free, least_outside, otherwise, chosen}
 use Rattle.evacuation.specs.declared.Hint.{Hint}
 use Rattle.evacuation.specs.declared.Hint.TheVariants.{Stays, Moves, NoRegister as Nowhere}
-use Rattle.evacuation.specs.Evacuation.{Sets, Evacuation, alloc_with_cr, alloc_with_ca, hint, hint_to, moved_to, evacuated_by, evacuated}
+use Rattle.restricting_sets.specs.declared.VariableSets.{VariableSets}
+use Rattle.evacuation.specs.Evacuation.{Evacuation, alloc_with_cr, alloc_with_ca, hint, hint_to, moved_to, evacuated_by, evacuated}
 use Rattle.invariants.specs.Lists.{All, all_take, all_drop, all_map, all_numbers}
 use Rattle.invariants.specs.Kept.{Wanted, Kept, kept_placed}
 
 module _ (k : Wanted) where
   -- a register that is chosen is good
-  abbrev pub GoodChoice : Chosen → Type 0
-  GoodChoice (Register r) = k.Good r
-  GoodChoice NoRegister = Unit {0}
+  abbrev pub GoodChoice : Option ℕ → Type 0
+  GoodChoice (Some r) = k.Good r
+  GoodChoice None = Unit {0}
 
   -- every use is of a good register
   abbrev pub GoodUses : List ℕ → Type 0
@@ -43,10 +42,10 @@ module _ (k : Wanted) where
   unfolding registers_from
   search_good test r = first_good test _ (all_numbers k.Good registers r (suc registers - r) k.small (omega arith))
 
-  otherwise_good : (a b : Chosen) → GoodChoice a → GoodChoice b → GoodChoice (otherwise a b)
+  otherwise_good : (a b : Option ℕ) → GoodChoice a → GoodChoice b → GoodChoice (otherwise a b)
   unfolding otherwise
-  otherwise_good (Register r) b g h = g
-  otherwise_good NoRegister b g h = h
+  otherwise_good (Some r) b g h = g
+  otherwise_good None b g h = h
 
   pub chosen_good : (c : Counters) (use_set : List ℕ) (avoided : ℕ) → GoodUses use_set → GoodChoice (chosen c use_set avoided)
   unfolding chosen first_unused least_free
@@ -64,12 +63,12 @@ module _ (k : Wanted) where
   uses_good use_sets use_counts v good =
       all_take _ (min (get_or use_counts v 0) uses) (drop (v * uses) use_sets) (all_drop _ (v * uses) use_sets good)
 
-  module _ (s : Sets) (good : GoodUses s.use_sets) where
-    pub cr_good : (c : Counters) (v : ℕ) → GoodChoice (alloc_with_cr c s.use_sets s.use_counts s.no_use v)
+  module _ (s : VariableSets) (good : GoodUses s.use_sets) where
+    pub cr_good : (c : Counters) (v : ℕ) → GoodChoice (alloc_with_cr c s v)
     cr_good c v =
         chosen_good c (uses_of s.use_sets s.use_counts v) (set_at s.no_use v) (uses_good s.use_sets s.use_counts v good)
 
-    pub ca_good : (c : Counters) (v : ℕ) → GoodChoice (alloc_with_ca c s.use_sets s.use_counts s.no_use s.conflict v)
+    pub ca_good : (c : Counters) (v : ℕ) → GoodChoice (alloc_with_ca c s v)
     ca_good c v =
         chosen_good c (uses_of s.use_sets s.use_counts v) (union (set_at s.no_use v) (set_at s.conflict v))
         (uses_good s.use_sets s.use_counts v good)
@@ -81,9 +80,9 @@ module _ (k : Wanted) where
     GoodHint Nowhere = Unit {0}
     GoodHint (Moves v r) = k.Good r
 
-    hint_to_good : (v : ℕ) (choice : Chosen) → GoodChoice choice → GoodHint (hint_to v choice)
-    hint_to_good v (Register r) g = g
-    hint_to_good v NoRegister g = tt
+    hint_to_good : (v : ℕ) (choice : Option ℕ) → GoodChoice choice → GoodHint (hint_to v choice)
+    hint_to_good v (Some r) g = g
+    hint_to_good v None g = tt
 
     hint_good : (c : Counters) (records mappings : List ℕ) (chunk : ℕ) → GoodHint (hint c records mappings s chunk)
     unfolding hint
@@ -92,7 +91,7 @@ module _ (k : Wanted) where
         either GoodHint (leb variables v) tt
         (either GoodHint (not (is_temporary records v)) tt
         (either GoodHint (contains_use (uses_of s.use_sets s.use_counts v) (use_code (last_context chunk) c.arg_c)) tt
-        (hint_to_good v (alloc_with_ca c s.use_sets s.use_counts s.no_use s.conflict v) (ca_good c v))))
+        (hint_to_good v (alloc_with_ca c s v) (ca_good c v))))
 
     module _ (c : Counters) {records : List ℕ} (mappings : List ℕ) (code : CodeDeque) (every : Kept k records) where
       moved_keeps : (v r : ℕ) → k.Good r → Kept k (moved_to c records mappings code v r).records

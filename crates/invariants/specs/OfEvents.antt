@@ -1,7 +1,6 @@
 -- The numbers of a line that nothing refused before: its uses are of good registers, and so is a register that is freed.
-use Rattle.std.specs.Prelude.{ℕ, ◌≤◌, ◌≡◌, true, ◌&&◌, leb}
+use Rattle.std.specs.Prelude.{ℕ, ◌≡◌, true, ◌&&◌, leb}
 use mathlib.Core.List.{List, [], ◌∷◌}
-use Rattle.std.proofs.Common.{arith}
 use Rattle.std.proofs.Math.Dec.{ltb}
 use Rattle.notation.specs.ChoiceLaws.{both_true, either, by_test}
 use Rattle.sizes.specs.Sizes.{freed_registers, is_register, is_count}
@@ -17,21 +16,25 @@ use Rattle.events.specs.Events.{is_use, is_context, all_fit, context_fits, in_si
 use Rattle.invariants.specs.Lists.{All, all_set}
 use Rattle.invariants.specs.Kept.{Wanted}
 use Rattle.invariants.specs.OfEvacuation.{GoodUses}
+use Rattle.refusals.specs.Refusals.{is_refused}
+use Rattle.refusals.specs.declared.Refusal.{Refusal}
+use Rattle.std.specs.Prelude.{Option, false}
+use Rattle.std.proofs.Common.{true≢false}
 
 -- ---- A line that is not refused is in size
 
 module _ (c : Counters) (event : Event) (list : List ℕ) where
-  unrefused_by_size : refusal_by_size c event list ≤ 0 → in_size c.records event list ≡ true
+  unrefused_by_size : is_refused (refusal_by_size c event list) ≡ false → in_size c.records event list ≡ true
   unfolding refusal_by_size
   unrefused_by_size =
-      by_test (λ (n : ℕ). n ≤ 0 → in_size c.records event list ≡ true) (in_size c.records event list) (λ e h. e)
-      (λ e h. absurd (omega arith))
+      by_test (λ (refusal : Option Refusal). is_refused refusal ≡ false → in_size c.records event list ≡ true) (in_size c.records event list) (λ e h. e)
+      (λ e h. absurd (true≢false h))
 
-  pub unrefused_in_size : refusal_before c event list ≤ 0 → in_size c.records event list ≡ true
+  pub unrefused_in_size : is_refused (refusal_before c event list) ≡ false → in_size c.records event list ≡ true
   unfolding refusal_before
   unrefused_in_size =
-      either (λ (n : ℕ). n ≤ 0 → in_size c.records event list ≡ true) (is_record event && ltb 0 c.events_seen)
-      (λ h. absurd (omega arith))
+      either (λ (refusal : Option Refusal). is_refused refusal ≡ false → in_size c.records event list ≡ true) (is_record event && ltb 0 c.events_seen)
+      (λ h. absurd (true≢false h))
       unrefused_by_size
 
 module _ (k : Wanted) where

@@ -1,5 +1,5 @@
 -- Every record stays of its kind, in a good place, where a variable is marked.
-use Rattle.std.specs.Prelude.{ℕ, ◌%◌, Bool, List, eqb, ltb}
+use Rattle.std.specs.Prelude.{Option, Some, None, ℕ, ◌%◌, Bool, List, eqb}
 use Rattle.std.proofs.Math.Bool.{true, false}
 use Rattle.notation.specs.ChoiceLaws.{either}
 use Rattle.sizes.specs.Sizes.{variables}
@@ -21,13 +21,12 @@ use Rattle.variable_records.specs.declared.VarAlloc.TheVariants.{Temp, Perm}
 use Rattle.variable_records.specs.Rows.{record_at}
 use Rattle.branch_stack.specs.BranchStack.{current_branch}
 use Rattle.allocator_state.specs.declared.Counters.{Counters}
-use Rattle.choice.specs.declared.Chosen.{Chosen}
-use Rattle.choice.specs.declared.Chosen.TheVariants.{Register, NoRegister}
 use Rattle.evacuation.specs.declared.Reached.{Reached}
-use Rattle.evacuation.specs.Evacuation.{Sets, Evacuation, alloc_with_cr, alloc_with_ca, going_on, evacuated}
+use Rattle.restricting_sets.specs.declared.VariableSets.{VariableSets}
+use Rattle.evacuation.specs.Evacuation.{Evacuation, alloc_with_cr, alloc_with_ca, going_on, evacuated}
 use Rattle.allocation.specs.Allocation.{Placement, perm_placed}
 use Rattle.marks.specs.Marks.{RegisterPlacement, chosen_or_refused, alloc_apart, after_evacuation, alloc_shallow, register_placed}
-use Rattle.mark_var.specs.declared.Mark.{Mark}
+use Rattle.reserved_var.specs.declared.Mark.{Mark}
 use Rattle.mark_var.specs.MarkVar.{Noted, noted, settled, Marking, finished_after, finished, instructed_at, instructed_for, reserved_after, reserved_marked}
 use Rattle.mark_var.specs.MarkVar.{VarMark, marked_at, new_temporary_after, new_temporary_marked, new_slot_after, new_slot_marked, slot_marked}
 use Rattle.mark_var.specs.MarkVar.{temporary_marked, permanent_marked, marked_by, var_marked}
@@ -35,6 +34,7 @@ use Rattle.invariants.specs.Kept.{Wanted, Holds, Kept, kept_at, kept_placed, non
 use Rattle.invariants.specs.OfEvacuation.{GoodChoice, GoodUses, cr_good, ca_good, evacuated_keeps}
 use Rattle.invariants.specs.OfAllocation.{GoodPlacement, slot_given_keeps, perm_placed_good, counted_or_freed_keeps}
 use Rattle.invariants.specs.OfReservedVar.{KeptEvacuation, subterm_made_keeps, argument_marked_keeps}
+use Rattle.refusals.specs.Refusals.{is_refused}
 
 module _ (k : Wanted) where
   -- ---- What follows the instruction
@@ -53,7 +53,7 @@ module _ (k : Wanted) where
 
     finished_after_keeps : (n : Noted) (code : CodeDeque) → KeptMarking (finished_after n c records list v context place code)
     unfolding finished_after
-    finished_after_keeps n code = either KeptMarking (ltb 0 n.refusal) every settled_keeps
+    finished_after_keeps n code = either KeptMarking (is_refused n.refusal) every settled_keeps
 
     finished_keeps :
         (mappings rows branch_sets : List ℕ) (is_new : Bool) (code : CodeDeque)
@@ -67,25 +67,25 @@ module _ (k : Wanted) where
   GoodRegister p = Kept k p.records × k.Good p.placed.place
 
   chosen_or_refused_good :
-      (reached : Reached) (choice : Chosen) → GoodChoice k choice
+      (reached : Reached) (choice : Option ℕ) → GoodChoice k choice
       → k.Good (chosen_or_refused reached choice).place
-  chosen_or_refused_good reached (Register r) g = g
-  chosen_or_refused_good reached NoRegister g = none_good k
+  chosen_or_refused_good reached (Some r) g = g
+  chosen_or_refused_good reached None g = none_good k
 
-  module _ (s : Sets) (good : GoodUses k s.use_sets) where
+  module _ (s : VariableSets) (good : GoodUses k s.use_sets) where
     -- ---- A register for a new temporary
 
     apart_good : (c : Counters) (v : ℕ) (code : CodeDeque) → k.Good (alloc_apart c s v code).place
     unfolding alloc_apart
     apart_good c v code =
-        chosen_or_refused_good (going_on c code) (alloc_with_ca c s.use_sets s.use_counts s.no_use s.conflict v) (ca_good k s good c v)
+        chosen_or_refused_good (going_on c code) (alloc_with_ca c s v) (ca_good k s good c v)
 
     after_evacuation_good : (e : Evacuation) → KeptEvacuation k e → (v : ℕ) → GoodRegister (after_evacuation e s v)
     unfolding after_evacuation
     after_evacuation_good e every v =
         let c = e.reached.counters in
-        either GoodRegister (ltb 0 e.reached.refusal) (every, none_good k)
-        (every, chosen_or_refused_good e.reached (alloc_with_cr c s.use_sets s.use_counts s.no_use v) (cr_good k s good c v))
+        either GoodRegister (is_refused e.reached.refusal) (every, none_good k)
+        (every, chosen_or_refused_good e.reached (alloc_with_cr c s v) (cr_good k s good c v))
 
     module _ {records : List ℕ} (every : Kept k records) (c : Counters) (mappings : List ℕ) (v : ℕ) where
       shallow_good : (chunk : ℕ) (code : CodeDeque) → GoodRegister (alloc_shallow c records mappings s v chunk code)
@@ -109,7 +109,7 @@ module _ (k : Wanted) where
           (level : Level) (branch : Branch) (code : CodeDeque)
           → KeptEvacuation k (instructed_at level c records mappings s mark place is_new branch code)
       instructed_at_keeps Deep branch code =
-          subterm_made_keeps k every c mappings s.use_sets s.use_counts mark.target mark.context mark.variable place is_new branch code
+          subterm_made_keeps k every c mappings s mark.target mark.context mark.variable place is_new branch code
       instructed_at_keeps Root branch code =
           argument_marked_keeps k s good every c mappings mark.target Root mark.context mark.variable place is_new branch code
       instructed_at_keeps Shallow branch code =
@@ -121,7 +121,7 @@ module _ (k : Wanted) where
           → KeptMarking (reserved_after e list rows branch_sets mark place is_new)
       unfolding reserved_after
       reserved_after_keeps e every place number is_new =
-          either KeptMarking (ltb 0 e.reached.refusal) every
+          either KeptMarking (is_refused e.reached.refusal) every
           (finished_keeps every e.reached.counters list mark.variable mark.context place number e.mappings rows branch_sets is_new
           e.reached.code)
 
@@ -141,7 +141,7 @@ module _ (k : Wanted) where
           → KeptMark (new_temporary_after p s list rows branch_sets mark)
       unfolding new_temporary_after
       new_temporary_after_keeps p g =
-          either KeptMark (ltb 0 p.placed.reached.refusal) g.0
+          either KeptMark (is_refused p.placed.reached.refusal) g.0
           (marked_at_keeps g.0 p.placed.reached.counters p.mappings (TempRegister p.placed.place) g.1 true p.placed.reached.code)
 
       new_slot_after_keeps :
@@ -149,7 +149,7 @@ module _ (k : Wanted) where
           → KeptMark (new_slot_after p mappings s list rows branch_sets mark)
       unfolding new_slot_after
       new_slot_after_keeps p g mappings =
-          either KeptMark (ltb 0 p.placed.refusal) g.0
+          either KeptMark (is_refused p.placed.refusal) g.0
           (marked_at_keeps g.0 p.placed.counters mappings (PermSlot p.placed.place) g.1 true Empty)
 
       module _ {records : List ℕ} (every : Kept k records) (c : Counters) (mappings : List ℕ) where

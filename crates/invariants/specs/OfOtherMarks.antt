@@ -1,5 +1,5 @@
 -- Every record stays of its kind, in a good place, where what is no ordinary occurrence of a variable is marked.
-use Rattle.std.specs.Prelude.{ℕ, ◌%◌, true, false, List, eqb, ltb}
+use Rattle.std.specs.Prelude.{Option, Some, None, ℕ, ◌%◌, true, false, List, eqb}
 use Rattle.notation.specs.ChoiceLaws.{either}
 use Rattle.sizes.specs.Sizes.{variables}
 use Rattle.registers.specs.declared.RegType.{RegType}
@@ -17,9 +17,7 @@ use Rattle.variable_records.specs.declared.VariableRecord.{VariableRecord}
 use Rattle.variable_records.specs.Records.{allocated}
 use Rattle.variable_records.specs.Rows.{record_at}
 use Rattle.allocator_state.specs.declared.Counters.{Counters}
-use Rattle.choice.specs.declared.Chosen.{Chosen}
-use Rattle.choice.specs.declared.Chosen.TheVariants.{Register, NoRegister}
-use Rattle.evacuation.specs.Evacuation.{Sets}
+use Rattle.restricting_sets.specs.declared.VariableSets.{VariableSets}
 use Rattle.allocation.specs.Allocation.{Placement, non_var, perm_placed}
 use Rattle.other_marks.specs.OtherMarks.{emptied_in, turn_taken, MarkOf, anon_argument, is_argument, anon_placed, anon_chosen, anon_marked}
 use Rattle.other_marks.specs.OtherMarks.{non_var_argument, non_var_marked, CutOf, slot_cut_by, slot_cut, register_cut_by, register_cut, cut_as, cut_marked}
@@ -27,6 +25,7 @@ use Rattle.invariants.specs.Lists.{All}
 use Rattle.invariants.specs.Kept.{Wanted, Holds, Kept, kept_at, kept_put}
 use Rattle.invariants.specs.OfEvacuation.{GoodChoice, GoodUses, evacuated_keeps}
 use Rattle.invariants.specs.OfAllocation.{GoodPlacement, non_var_good, perm_placed_good}
+use Rattle.refusals.specs.Refusals.{is_refused}
 
 module _ (k : Wanted) where
   -- ---- An anonymous variable, and a term that is no variable
@@ -34,7 +33,7 @@ module _ (k : Wanted) where
   abbrev pub KeptOther : MarkOf → Type 0
   KeptOther m = Kept k m.records
 
-  module _ (s : Sets) (good : GoodUses k s.use_sets) {records : List ℕ} (every : Kept k records) (mappings : List ℕ) where
+  module _ (s : VariableSets) (good : GoodUses k s.use_sets) {records : List ℕ} (every : Kept k records) (mappings : List ℕ) where
     emptied_keeps : (context : GenContext) (c : Counters) → Kept k (emptied_in context c records mappings s).records
     emptied_keeps Head c = every
     emptied_keeps (Mid chunk) c = every
@@ -58,10 +57,10 @@ module _ (k : Wanted) where
         either KeptOther (is_argument level) (anon_argument_keeps c target context place) every
 
     anon_chosen_keeps :
-        (choice : Chosen) (c : Counters) (target : Target) (level : Level) (context : GenContext)
+        (choice : Option ℕ) (c : Counters) (target : Target) (level : Level) (context : GenContext)
         → KeptOther (anon_chosen choice c records mappings s target level context)
-    anon_chosen_keeps NoRegister c target level context = every
-    anon_chosen_keeps (Register r) c target level context = anon_placed_keeps c target level context (TempRegister r)
+    anon_chosen_keeps None c target level context = every
+    anon_chosen_keeps (Some r) c target level context = anon_placed_keeps c target level context (TempRegister r)
 
     pub anon_marked_keeps :
         (c : Counters) (list : List ℕ) (target : Target) (level : Level) (context : GenContext)
@@ -89,7 +88,7 @@ module _ (k : Wanted) where
 
   slot_cut_by_keeps : (p : Placement) → GoodPlacement k p → KeptCut (slot_cut_by p)
   unfolding slot_cut_by
-  slot_cut_by_keeps p g = either KeptCut (ltb 0 p.placed.refusal) g.0 g.0
+  slot_cut_by_keeps p g = either KeptCut (is_refused p.placed.refusal) g.0 g.0
 
   module _ {records : List ℕ} (every : Kept k records) (v : ℕ) where
     slot_cut_keeps :
@@ -100,11 +99,11 @@ module _ (k : Wanted) where
         slot_cut_by_keeps (perm_placed c records perm_list v chunk) (perm_placed_good k every v permanent c perm_list chunk)
 
     register_cut_by_keeps :
-        (choice : Chosen) → GoodChoice k choice → k.Kind (v % variables) true
+        (choice : Option ℕ) → GoodChoice k choice → k.Kind (v % variables) true
         → (c : Counters) (variable : VariableRecord) (context : GenContext) (to_perm : ℕ)
         → KeptCut (register_cut_by choice c records v variable context to_perm)
-    register_cut_by_keeps NoRegister g temporary c variable context to_perm = every
-    register_cut_by_keeps (Register r) g temporary c variable context to_perm =
+    register_cut_by_keeps None g temporary c variable context to_perm = every
+    register_cut_by_keeps (Some r) g temporary c variable context to_perm =
         kept_put k every v (allocated variable (Temp context r GloballyUnneeded to_perm)) (temporary, g)
 
     module _ (c : Counters) (perm_list list : List ℕ) (chunk : ℕ) (given : All k.Good list) where

@@ -1,21 +1,20 @@
 -- Every record stays of its kind, in a good place, after `head`, `incr` and `safe`.
-use Rattle.std.specs.Prelude.{ℕ, suc, ◌+◌, ◌-◌, ◌%◌, ◌≤◌, leb, length}
+use Rattle.std.specs.Prelude.{ℕ, suc, ◌+◌, ◌-◌, ◌%◌, ◌≤◌, leb, length, Option, Some, None}
 use mathlib.Core.List.{List, [], ◌∷◌}
 use Rattle.std.proofs.Common.{arith}
 use Rattle.std.proofs.Math.ListN.{length-take}
 use Rattle.notation.specs.ChoiceLaws.{either}
 use Rattle.sizes.specs.Sizes.{variables, registers, counts}
+use Rattle.variable_records.specs.declared.VariableRecord.{VariableRecord}
 use Rattle.variable_records.specs.Rows.{record_at}
 use Rattle.branch_stack.specs.BranchStack.{current_branch}
 use Rattle.allocator_state.specs.declared.Counters.{Counters}
 use Rattle.freeing.specs.Freeing.{running_at}
-use Rattle.record_marks.specs.declared.MarkedSafe.{MarkedSafe}
-use Rattle.record_marks.specs.declared.MarkedSafe.TheVariants.{Safe, FromTemporary, Stopped}
 use Rattle.record_marks.specs.RecordMarks.{marked_unconditionally}
 use Rattle.resets.specs.Resets.{head_arguments, Heading, heading, awaits_register, argument_placed, arguments_placed, head_begun, head_reset}
 use Rattle.resets.specs.Resets.{Answer, running_incremented, safe_marked_as, safe_marked}
 use Rattle.invariants.specs.Kept.{Wanted, Kept, kept_at, kept_put, kept_placed}
-use Rattle.invariants.specs.OfRecordMarks.{HoldsSafe, unconditionally_holds}
+use Rattle.invariants.specs.OfRecordMarks.{HoldsMade, unconditionally_holds}
 
 module _ (k : Wanted) where
   -- ---- `head`: argument n is given register n, one up to 63
@@ -54,10 +53,9 @@ module _ (k : Wanted) where
         either KeptAnswer (leb counts (record_at records v).running_count) every
         (kept_put k every v (running_at (record_at records v) ((record_at records v).running_count + 1)) (kept_at k every v))
 
-    safe_as_keeps : (v : ℕ) (marked : MarkedSafe) → HoldsSafe k (v % variables) marked → KeptAnswer (safe_marked_as marked records v)
-    safe_as_keeps v (Safe variable) h = kept_put k every v variable h
-    safe_as_keeps v FromTemporary h = every
-    safe_as_keeps v Stopped h = every
+    safe_as_keeps : (v : ℕ) (marked : Option VariableRecord) → HoldsMade k (v % variables) marked → KeptAnswer (safe_marked_as marked records v)
+    safe_as_keeps v (Some variable) h = kept_put k every v variable h
+    safe_as_keeps v None h = every
 
     pub safe_keeps : (rows : List ℕ) (opened v : ℕ) → KeptAnswer (safe_marked records rows opened v)
     unfolding safe_marked

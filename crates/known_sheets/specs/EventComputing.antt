@@ -36,11 +36,10 @@ use Rattle.debray_allocator.specs.declared.State.{State}
 use Rattle.debray_allocator.specs.declared.Answer.{Answer}
 use Rattle.debray_allocator.specs.DebrayAllocator.{seen_after, refused_with, acted, unless_refused, stepped}
 use Rattle.event_fields.specs.EventFields.{target_of, level_of, context_of as context_field, use_in, use_of, variable_entry, argument_of}
-use Rattle.event_lines.specs.LineForms.{end_says, field_says, all_entries, list_says, leading, uses_in, uses_say, uses_list}
+use Rattle.event_lines.specs.LineForms.{Line, end_says, field_says, all_entries, list_says, leading, uses_in, uses_say, uses_list}
 use Rattle.event_lines.specs.Words.{line_words}
 use Rattle.event_lines.specs.EventLines.{word_among, fields_say, fields_list, line_says, line_list}
 use Rattle.answers.specs.Answers.{answer_text, text_of, end_text}
-use Rattle.event_lines.specs.declared.Line.{Line}
 
 -- a line read
 unfoldable pub line_read : List ℕ → Line

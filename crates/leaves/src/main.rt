@@ -4,8 +4,7 @@
 #![tactic(auto)]
 
 use bit_set::BitSet;
-use inputs::AT_THE_END;
-use numbers::Number;
+use inputs::ReadAnswer;
 use registers::RegType;
 use sizes::{LAST_REGISTER, SHEET_BYTES};
 use split::{LINE_FEED, TAB};
@@ -21,11 +20,11 @@ struct Shown {
 // One field's answer.
 fn show_field(out: &mut [u8], shown: Shown, field: &[u8]) -> Shown {
     match numbers::read(field) {
-        Number::Malformed => Shown {
+        None => Shown {
             at: printing::put_byte(out, shown.at, b'-'),
             found: shown.found,
         },
-        Number::Of(n) => Shown {
+        Some(n) => Shown {
             at: printing::put_number(out, shown.at, n),
             found: with_register(shown.found, n),
         },
@@ -46,17 +45,13 @@ fn show_fields(out: &mut [u8], line: &[u8]) -> Shown {
         at: 0,
         found: bit_set::empty(),
     };
-    let mut rest = line;
-    loop {
-        let end = split::end_of(rest, TAB);
-        shown = show_field(out, shown, split::part_before(rest, end));
-        if rest.len() <= end {
-            return shown;
+    for (i, field) in line.split(|&byte| byte == TAB).enumerate() {
+        if 0 < i {
+            shown.at = printing::put_byte(out, shown.at, TAB);
         }
-        shown.at = printing::put_byte(out, shown.at, TAB);
-        let next = split::part_after(rest, end);
-        rest = next;
+        shown = show_field(out, shown, field);
     }
+    shown
 }
 
 // A tab and the register `r`, if it is a member.
@@ -104,22 +99,21 @@ fn say(rt: &(impl Print + Eprint), answer: &[u8], end: usize) {
 }
 
 // Each line that ends in a line feed.
-fn show_lines(rt: &(impl Print + Eprint), sheet: &[u8]) {
+fn show_lines(rt: &HostRuntime, sheet: &[u8]) {
     let mut out = [0u8; 4096];
-    let mut rest = sheet;
-    let mut end = split::end_of(rest, LINE_FEED);
-    while end < rest.len() {
-        let answer_end = show_line(&mut out, split::part_before(rest, end));
-        say(rt, &out, answer_end);
-        let next = split::part_after(rest, end);
-        rest = next;
-        end = split::end_of(rest, LINE_FEED);
+    for part in sheet.split_inclusive(|&byte| byte == LINE_FEED) {
+        if let [line @ .., LINE_FEED] = part {
+            let end = show_line(&mut out, line);
+            say(rt, &out, end);
+        }
     }
 }
 
 // Reads until the room is full, the input ends or a read fails; how many bytes came.
+// A loop with no count: how many reads it takes, the input alone says.
 fn read_input(from: &mut impl Read, input: &mut [u8]) -> usize {
     let mut came = 0;
+    // A read says how far it came, so nothing is counted.
     while came < input.len() {
         let more = from.read(&mut input[came..]).unwrap_or(0);
         if more == 0 {
@@ -136,7 +130,7 @@ fn main(rt: HostRuntime) {
     let came = read_input(&mut from, &mut input);
     let mut byte = [0u8; 1];
     let further = inputs::answer_of(&from.read(&mut byte));
-    if further == AT_THE_END {
+    if further == ReadAnswer::AtTheEnd {
         show_lines(&rt, split::part_before(&input, came));
     } else {
         let _ = rt.eprintln("leaves: no answer, since the input did not come whole");

@@ -1,7 +1,8 @@
 -- A variable is marked: rules 12.1 to 12.12.
-use Rattle.std.specs.Prelude.{ℕ, Bool, true, false, List, eqb, ltb}
+use Rattle.std.specs.Prelude.{ℕ, Bool, true, false, List, Option, eqb}
 use Rattle.std.specs.Prelude.{if◌then◌else◌}
-use Rattle.refusals.specs.Refusals.{accepted}
+use Rattle.refusals.specs.declared.Refusal.{Refusal}
+use Rattle.refusals.specs.Refusals.{accepted, is_refused}
 use Rattle.bit_set.specs.BitSet.{inserted}
 use Rattle.registers.specs.declared.RegType.{RegType}
 use Rattle.registers.specs.declared.RegType.TheVariants.{Temp as TempRegister, Perm as PermSlot}
@@ -25,13 +26,14 @@ use Rattle.branches.specs.Branches.{record_refusal, recorded, rows_recorded, set
 use Rattle.allocator_state.specs.declared.Counters.{Counters}
 use Rattle.allocator_state.specs.Counters.{with_in_use}
 use Rattle.evacuation.specs.declared.Reached.{Reached}
-use Rattle.evacuation.specs.Evacuation.{Sets, Evacuation, evacuation}
+use Rattle.restricting_sets.specs.declared.VariableSets.{VariableSets}
+use Rattle.evacuation.specs.Evacuation.{Evacuation, evacuation}
 use Rattle.allocation.specs.Allocation.{Placement, slot_given, perm_placed}
 use Rattle.freeing.specs.Freeing.{ReleaseOf, release_of, counted_or_freed}
 use Rattle.reserved_var.specs.ReservedVar.{Step, stopped, subterm_made, argument_marked}
 use Rattle.marks.specs.declared.Marked.{Marked}
 use Rattle.marks.specs.Marks.{RegisterPlacement, register_placed}
-use Rattle.mark_var.specs.declared.Mark.{Mark}
+use Rattle.reserved_var.specs.declared.Mark.{Mark}
 
 -- ---- What follows the instruction: rule 12.10
 
@@ -39,9 +41,9 @@ pub record Noted : Type 0 where
   pub mappings : List ℕ
   pub rows : List ℕ
   pub branch_sets : List ℕ
-  pub refusal : ℕ
+  pub refusal : Option Refusal
 
-abbrev pub noted_place : List ℕ → List ℕ → List ℕ → ℕ → Noted
+abbrev pub noted_place : List ℕ → List ℕ → List ℕ → Option Refusal → Noted
 noted_place mappings rows branch_sets refusal =
     record { mappings = mappings; rows = rows; branch_sets = branch_sets; refusal = refusal }
 
@@ -97,7 +99,7 @@ settled_after r n code =
 
 unfoldable pub finished_after : Noted → Counters → List ℕ → List ℕ → ℕ → GenContext → RegType → CodeDeque → Marking
 finished_after n c records list v context place code =
-    if ltb 0 n.refusal then
+    if is_refused n.refusal then
     marking records n.mappings list n.rows n.branch_sets (stopped c code n.refusal)
     else settled_after (settled c records list context v place) n code
 
@@ -112,17 +114,17 @@ abbrev pub subterm_in : Step → List ℕ → Evacuation
 subterm_in s mappings = evacuation s.records mappings s.reached
 
 abbrev pub instructed_at :
-    Level → Counters → List ℕ → List ℕ → Sets → Mark → RegType → Bool → Branch → CodeDeque → Evacuation
+    Level → Counters → List ℕ → List ℕ → VariableSets → Mark → RegType → Bool → Branch → CodeDeque → Evacuation
 instructed_at Deep c records mappings s mark place is_new branch code =
     subterm_in
-    (subterm_made c records mappings s.use_sets s.use_counts mark.target mark.context mark.variable place is_new branch code)
+    (subterm_made c records mappings s mark.target mark.context mark.variable place is_new branch code)
     mappings
 instructed_at Root c records mappings s mark place is_new branch code =
     argument_marked c records mappings s mark.target Root mark.context mark.variable place is_new branch code
 instructed_at Shallow c records mappings s mark place is_new branch code =
     argument_marked c records mappings s mark.target Shallow mark.context mark.variable place is_new branch code
 
-abbrev pub instructed_for : Counters → List ℕ → List ℕ → Sets → List ℕ → Mark → RegType → Bool → CodeDeque → Evacuation
+abbrev pub instructed_for : Counters → List ℕ → List ℕ → VariableSets → List ℕ → Mark → RegType → Bool → CodeDeque → Evacuation
 instructed_for c records mappings s rows mark place is_new code =
     instructed_at mark.level c records mappings s mark place is_new (current_branch rows c.open_branches) code
 
@@ -130,7 +132,7 @@ instructed_for c records mappings s rows mark place is_new code =
 
 unfoldable pub reserved_after : Evacuation → List ℕ → List ℕ → List ℕ → Mark → RegType → Bool → Marking
 reserved_after e list rows branch_sets mark place is_new =
-    if ltb 0 e.reached.refusal then marking e.records e.mappings list rows branch_sets e.reached
+    if is_refused e.reached.refusal then marking e.records e.mappings list rows branch_sets e.reached
     else
     finished
     e.reached.counters
@@ -146,7 +148,7 @@ reserved_after e list rows branch_sets mark place is_new =
     e.reached.code
 
 unfoldable pub reserved_marked :
-    Counters → List ℕ → List ℕ → Sets → List ℕ → List ℕ → List ℕ → Mark → RegType → Bool → CodeDeque → Marking
+    Counters → List ℕ → List ℕ → VariableSets → List ℕ → List ℕ → List ℕ → Mark → RegType → Bool → CodeDeque → Marking
 reserved_marked c records mappings s list rows branch_sets mark place is_new code =
     reserved_after
     (instructed_for c records mappings s rows mark place is_new code)
@@ -176,7 +178,7 @@ abbrev pub with_place : Marking → RegType → VarMark
 with_place m place =
     var_mark m.records m.mappings m.list m.rows m.branch_sets (record { reached = m.reached; place = place })
 
-unfoldable pub marked_at : Counters → List ℕ → List ℕ → Sets → List ℕ → List ℕ → List ℕ → Mark → RegType → Bool → CodeDeque → VarMark
+unfoldable pub marked_at : Counters → List ℕ → List ℕ → VariableSets → List ℕ → List ℕ → List ℕ → Mark → RegType → Bool → CodeDeque → VarMark
 marked_at c records mappings s list rows branch_sets mark place is_new code =
     with_place (reserved_marked c records mappings s list rows branch_sets mark place is_new code) place
 
@@ -185,9 +187,9 @@ abbrev pub placeless : Reached → Marked
 placeless reached = record { reached = reached; place = TempRegister 0 }
 
 -- rule 12.1: a temporary that has no register is new and gets one
-unfoldable pub new_temporary_after : RegisterPlacement → Sets → List ℕ → List ℕ → List ℕ → Mark → VarMark
+unfoldable pub new_temporary_after : RegisterPlacement → VariableSets → List ℕ → List ℕ → List ℕ → Mark → VarMark
 new_temporary_after p s list rows branch_sets mark =
-    if ltb 0 p.placed.reached.refusal then
+    if is_refused p.placed.reached.refusal then
     var_mark p.records p.mappings list rows branch_sets (placeless p.placed.reached)
     else
     marked_at
@@ -203,7 +205,7 @@ new_temporary_after p s list rows branch_sets mark =
     true
     p.placed.reached.code
 
-unfoldable pub new_temporary_marked : Counters → List ℕ → List ℕ → Sets → List ℕ → List ℕ → List ℕ → Mark → VarMark
+unfoldable pub new_temporary_marked : Counters → List ℕ → List ℕ → VariableSets → List ℕ → List ℕ → List ℕ → Mark → VarMark
 new_temporary_marked c records mappings s list rows branch_sets mark =
     new_temporary_after
     (register_placed c records mappings s mark.variable mark.level mark.context Empty)
@@ -214,40 +216,40 @@ new_temporary_marked c records mappings s list rows branch_sets mark =
     mark
 
 -- rule 12.2: a permanent variable that has no slot is new and gets one
-unfoldable pub new_slot_after : Placement → List ℕ → Sets → List ℕ → List ℕ → List ℕ → Mark → VarMark
+unfoldable pub new_slot_after : Placement → List ℕ → VariableSets → List ℕ → List ℕ → List ℕ → Mark → VarMark
 new_slot_after p mappings s list rows branch_sets mark =
-    if ltb 0 p.placed.refusal then
+    if is_refused p.placed.refusal then
     var_mark p.records mappings list rows branch_sets (placeless (stopped p.placed.counters Empty p.placed.refusal))
     else
     marked_at p.placed.counters p.records mappings s list rows branch_sets mark (PermSlot p.placed.place) true Empty
 
-unfoldable pub new_slot_marked : Counters → List ℕ → List ℕ → Sets → List ℕ → List ℕ → List ℕ → Mark → VarMark
+unfoldable pub new_slot_marked : Counters → List ℕ → List ℕ → VariableSets → List ℕ → List ℕ → List ℕ → Mark → VarMark
 new_slot_marked c records mappings s list rows branch_sets mark =
     new_slot_after (perm_placed c records list mark.variable (chunk_num mark.context)) mappings s list rows branch_sets mark
 
 -- rule 12.2: one that has a slot keeps it, and is new while it is Pending
-abbrev pub slot_marked : Counters → List ℕ → List ℕ → Sets → List ℕ → List ℕ → List ℕ → Mark → ℕ → PermVarAllocation → VarMark
+abbrev pub slot_marked : Counters → List ℕ → List ℕ → VariableSets → List ℕ → List ℕ → List ℕ → Mark → ℕ → PermVarAllocation → VarMark
 slot_marked c records mappings s list rows branch_sets mark slot Pending =
     marked_at c (slot_given records mark.variable slot) mappings s list rows branch_sets mark (PermSlot slot) true Empty
 slot_marked c records mappings s list rows branch_sets mark slot (Done shallow deep) =
     marked_at c records mappings s list rows branch_sets mark (PermSlot slot) false Empty
 
-unfoldable pub temporary_marked : Counters → List ℕ → List ℕ → Sets → List ℕ → List ℕ → List ℕ → Mark → ℕ → VarMark
+unfoldable pub temporary_marked : Counters → List ℕ → List ℕ → VariableSets → List ℕ → List ℕ → List ℕ → Mark → ℕ → VarMark
 temporary_marked c records mappings s list rows branch_sets mark register =
     if eqb register 0 then new_temporary_marked c records mappings s list rows branch_sets mark
     else marked_at c records mappings s list rows branch_sets mark (TempRegister register) false Empty
 
-unfoldable pub permanent_marked : Counters → List ℕ → List ℕ → Sets → List ℕ → List ℕ → List ℕ → Mark → ℕ → PermVarAllocation → VarMark
+unfoldable pub permanent_marked : Counters → List ℕ → List ℕ → VariableSets → List ℕ → List ℕ → List ℕ → Mark → ℕ → PermVarAllocation → VarMark
 permanent_marked c records mappings s list rows branch_sets mark slot allocation =
     if eqb slot 0 then new_slot_marked c records mappings s list rows branch_sets mark
     else slot_marked c records mappings s list rows branch_sets mark slot allocation
 
-abbrev pub marked_by : VarAlloc → Counters → List ℕ → List ℕ → Sets → List ℕ → List ℕ → List ℕ → Mark → VarMark
+abbrev pub marked_by : VarAlloc → Counters → List ℕ → List ℕ → VariableSets → List ℕ → List ℕ → List ℕ → Mark → VarMark
 marked_by (Temp context register safety to_perm) c records mappings s list rows branch_sets mark =
     temporary_marked c records mappings s list rows branch_sets mark register
 marked_by (Perm slot allocation) c records mappings s list rows branch_sets mark =
     permanent_marked c records mappings s list rows branch_sets mark slot allocation
 
-unfoldable pub var_marked : Counters → List ℕ → List ℕ → Sets → List ℕ → List ℕ → List ℕ → Mark → VarMark
+unfoldable pub var_marked : Counters → List ℕ → List ℕ → VariableSets → List ℕ → List ℕ → List ℕ → Mark → VarMark
 var_marked c records mappings s list rows branch_sets mark =
     marked_by (record_at records mark.variable).allocation c records mappings s list rows branch_sets mark

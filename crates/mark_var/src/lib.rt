@@ -1,8 +1,10 @@
 // A variable is marked: it gets a place if it has none, its instruction is made, and the mark is settled.
+//
+// Each function is lent the tables that it looks at and no others, so that its signature says what it leaves alone.
 #![tactic(auto)]
 
 ghost use Rattle.std.specs.Prelude.{◌≡◌};
-ghost use Rattle.evacuation.specs.Evacuation.{sets, evacuation};
+ghost use Rattle.evacuation.specs.Evacuation.{evacuation};
 ghost use Rattle.branches.specs.Branches.{record_refusal, recorded, rows_recorded, sets_recorded};
 ghost use Rattle.freeing.specs.Freeing.{release_of};
 ghost use Rattle.mark_var.specs.MarkVar.{
@@ -22,70 +24,50 @@ ghost use Rattle.mark_var.specs.MarkVar.{
 };
 
 use allocator_state::Counters;
-use branch_stack::{BranchRows, BranchSets};
-use branches::Recorded;
+use branch_stack::BranchStack;
 use code_deque::CodeDeque;
 use evacuation::Reached;
 use forms::{GenContext, Level};
 use freeing::Released;
 use marks::Marked;
 use perm_free_list::PermFreeList;
-use register_sets::RegisterSets;
+use refusals::Refusal;
 use registers::RegType;
+use reserved_var::Mark;
+use restricting_sets::VariableSets;
 use shallow_temp_mappings::Mappings;
-use targets::Target;
-use temp_var_data::{UseCounts, UseSets};
 use variable_records::{PermVarAllocation, Records, VarAlloc};
 
-// What a line says of a mark of a variable.
-#[derive(Clone, Copy)]
-pub struct Mark {
-    pub target: Target,
-    pub level: Level,
-    pub context: GenContext,
-    pub variable: u32,
-}
-
 // Records an occurrence in the innermost branch; the refusal where that is past its arms.
-fn record_occurrence(
-    rows: &mut BranchRows,
-    branch_sets: &mut BranchSets,
-    open_branches: u32,
-    v: u32,
-) -> u32
-    ensures value { result ≡ record_refusal (recorded rows.old branch_sets.old open_branches) }
-    ensures rows_after { rows.new ≡ rows_recorded rows.old branch_sets.old open_branches v }
-    ensures branch_sets_after { branch_sets.new ≡ sets_recorded rows.old branch_sets.old open_branches v }
+fn record_occurrence(stack: &mut BranchStack, open_branches: u32, v: u32) -> Option<Refusal>
+    ensures value { result ≡ record_refusal (recorded stack.old.rows stack.old.sets open_branches) }
+    ensures rows_after { stack.new.rows ≡ rows_recorded stack.old.rows stack.old.sets open_branches v }
+    ensures branch_sets_after { stack.new.sets ≡ sets_recorded stack.old.rows stack.old.sets open_branches v }
 {
-    let recorded = branches::add_branch_occurrence(rows, branch_sets, open_branches, v);
-    match recorded {
-        Recorded::Well => refusals::ACCEPTED,
-        Recorded::PastArms => refusals::STOP,
-    }
+    branches::refusal_of(branches::add_branch_occurrence(stack, open_branches, v))
 }
 
 // A temporary's register is mapped to it; a permanent variable that is new is recorded in its branch.
 fn note_place(
     mappings: &mut Mappings,
-    rows: &mut BranchRows,
-    branch_sets: &mut BranchSets,
+    stack: &mut BranchStack,
     open_branches: u32,
     v: u32,
     place: RegType,
     is_new: bool,
-) -> u32
-    ensures { noted_place mappings.new rows.new branch_sets.new result ≡ noted mappings.old rows.old branch_sets.old open_branches v place is_new }
+) -> Option<Refusal>
+    ensures { noted_place mappings.new stack.new.rows stack.new.sets result ≡ noted mappings.old stack.old.rows stack.old.sets open_branches v place is_new }
 {
     match place {
         RegType::Temp(r) => {
             shallow_temp_mappings::insert(mappings, r, v);
-            refusals::ACCEPTED
+            None
         }
         RegType::Perm(_) => {
             if is_new {
-                return record_occurrence(rows, branch_sets, open_branches, v);
+                return record_occurrence(stack, open_branches, v);
             }
-            refusals::ACCEPTED
+            None
         }
     }
 }
@@ -102,12 +84,14 @@ fn settle(
     ensures { release_of records.new list.new result ≡ settled counters records.old list.old context v place }
 {
     let chunk = forms::chunk_num(context);
-    let number = registers::number_of(place);
+    let number = place.number();
     let variable = variable_records::load(records, v);
     variable_records::store(records, v, variable.set_register(number));
     let released = freeing::count_or_free(counters, records, list, chunk, v);
-    let mut used = released.counters;
-    used.in_use = allocator_state::used_by(used.in_use, place);
+    let used = Counters {
+        in_use: allocator_state::used_by(released.counters.in_use, place),
+        ..released.counters
+    };
     Released {
         counters: used,
         refusal: released.refusal,
@@ -119,70 +103,22 @@ fn instruct(
     counters: Counters,
     records: &mut Records,
     mappings: &mut Mappings,
-    use_sets: &UseSets,
-    use_counts: &UseCounts,
-    no_use: &RegisterSets,
-    conflict: &RegisterSets,
-    rows: &BranchRows,
+    sets: &VariableSets,
+    stack: &BranchStack,
     mark: Mark,
     place: RegType,
     is_new: bool,
     code: CodeDeque,
 ) -> Reached
-    ensures { evacuation records.new mappings.new result ≡ instructed_for counters records.old mappings.old (sets use_sets.now use_counts.now no_use.now conflict.now) rows.now mark place is_new code }
+    ensures { evacuation records.new mappings.new result ≡ instructed_for counters records.old mappings.old sets.now stack.now.rows mark place is_new code }
 {
-    let branch = branch_stack::current_branch_designator(rows, counters.open_branches);
-    let target = mark.target;
-    let level = mark.level;
-    let context = mark.context;
-    match level {
+    let branch = stack.current_branch_designator(counters.open_branches);
+    match mark.level {
         Level::Deep => reserved_var::put_subterm(
-            counters,
-            records,
-            mappings,
-            use_sets,
-            use_counts,
-            target,
-            context,
-            mark.variable,
-            place,
-            is_new,
-            branch,
-            code,
+            counters, records, mappings, sets, mark, place, is_new, branch, code,
         ),
-        Level::Root => reserved_var::mark_argument(
-            counters,
-            records,
-            mappings,
-            use_sets,
-            use_counts,
-            no_use,
-            conflict,
-            target,
-            Level::Root,
-            context,
-            mark.variable,
-            place,
-            is_new,
-            branch,
-            code,
-        ),
-        Level::Shallow => reserved_var::mark_argument(
-            counters,
-            records,
-            mappings,
-            use_sets,
-            use_counts,
-            no_use,
-            conflict,
-            target,
-            Level::Shallow,
-            context,
-            mark.variable,
-            place,
-            is_new,
-            branch,
-            code,
+        Level::Root | Level::Shallow => reserved_var::mark_argument(
+            counters, records, mappings, sets, mark, place, is_new, branch, code,
         ),
     }
 }
@@ -193,26 +129,17 @@ fn finish(
     records: &mut Records,
     mappings: &mut Mappings,
     list: &mut PermFreeList,
-    rows: &mut BranchRows,
-    branch_sets: &mut BranchSets,
+    stack: &mut BranchStack,
     v: u32,
     context: GenContext,
     place: RegType,
     is_new: bool,
     code: CodeDeque,
 ) -> Reached
-    ensures { marking records.new mappings.new list.new rows.new branch_sets.new result ≡ finished counters records.old mappings.old list.old rows.old branch_sets.old v context place is_new code }
+    ensures { marking records.new mappings.new list.new stack.new.rows stack.new.sets result ≡ finished counters records.old mappings.old list.old stack.old.rows stack.old.sets v context place is_new code }
 {
-    let refusal = note_place(
-        mappings,
-        rows,
-        branch_sets,
-        counters.open_branches,
-        v,
-        place,
-        is_new,
-    );
-    if 0 < refusal {
+    let refusal = note_place(mappings, stack, counters.open_branches, v, place, is_new);
+    if refusal.is_some() {
         return Reached {
             counters,
             code,
@@ -233,25 +160,20 @@ fn mark_reserved_var(
     counters: Counters,
     records: &mut Records,
     mappings: &mut Mappings,
-    use_sets: &UseSets,
-    use_counts: &UseCounts,
-    no_use: &RegisterSets,
-    conflict: &RegisterSets,
+    sets: &VariableSets,
     list: &mut PermFreeList,
-    rows: &mut BranchRows,
-    branch_sets: &mut BranchSets,
+    stack: &mut BranchStack,
     mark: Mark,
     place: RegType,
     is_new: bool,
     code: CodeDeque,
 ) -> Reached
-    ensures { marking records.new mappings.new list.new rows.new branch_sets.new result ≡ reserved_marked counters records.old mappings.old (sets use_sets.now use_counts.now no_use.now conflict.now) list.old rows.old branch_sets.old mark place is_new code }
+    ensures { marking records.new mappings.new list.new stack.new.rows stack.new.sets result ≡ reserved_marked counters records.old mappings.old sets.now list.old stack.old.rows stack.old.sets mark place is_new code }
 {
     let reached = instruct(
-        counters, records, mappings, use_sets, use_counts, no_use, conflict, rows, mark, place,
-        is_new, code,
+        counters, records, mappings, sets, stack, mark, place, is_new, code,
     );
-    if 0 < reached.refusal {
+    if reached.refusal.is_some() {
         return reached;
     }
     let instructed = reached.counters;
@@ -262,8 +184,7 @@ fn mark_reserved_var(
         records,
         mappings,
         list,
-        rows,
-        branch_sets,
+        stack,
         mark.variable,
         context,
         place,
@@ -277,35 +198,18 @@ fn mark_at(
     counters: Counters,
     records: &mut Records,
     mappings: &mut Mappings,
-    use_sets: &UseSets,
-    use_counts: &UseCounts,
-    no_use: &RegisterSets,
-    conflict: &RegisterSets,
+    sets: &VariableSets,
     list: &mut PermFreeList,
-    rows: &mut BranchRows,
-    branch_sets: &mut BranchSets,
+    stack: &mut BranchStack,
     mark: Mark,
     place: RegType,
     is_new: bool,
     code: CodeDeque,
 ) -> Marked
-    ensures { var_mark records.new mappings.new list.new rows.new branch_sets.new result ≡ marked_at counters records.old mappings.old (sets use_sets.now use_counts.now no_use.now conflict.now) list.old rows.old branch_sets.old mark place is_new code }
+    ensures { var_mark records.new mappings.new list.new stack.new.rows stack.new.sets result ≡ marked_at counters records.old mappings.old sets.now list.old stack.old.rows stack.old.sets mark place is_new code }
 {
     let reached = mark_reserved_var(
-        counters,
-        records,
-        mappings,
-        use_sets,
-        use_counts,
-        no_use,
-        conflict,
-        list,
-        rows,
-        branch_sets,
-        mark,
-        place,
-        is_new,
-        code,
+        counters, records, mappings, sets, list, stack, mark, place, is_new, code,
     );
     Marked { reached, place }
 }
@@ -315,16 +219,12 @@ fn mark_new_temporary(
     counters: Counters,
     records: &mut Records,
     mappings: &mut Mappings,
-    use_sets: &UseSets,
-    use_counts: &UseCounts,
-    no_use: &RegisterSets,
-    conflict: &RegisterSets,
+    sets: &VariableSets,
     list: &mut PermFreeList,
-    rows: &mut BranchRows,
-    branch_sets: &mut BranchSets,
+    stack: &mut BranchStack,
     mark: Mark,
 ) -> Marked
-    ensures { var_mark records.new mappings.new list.new rows.new branch_sets.new result ≡ new_temporary_marked counters records.old mappings.old (sets use_sets.now use_counts.now no_use.now conflict.now) list.old rows.old branch_sets.old mark }
+    ensures { var_mark records.new mappings.new list.new stack.new.rows stack.new.sets result ≡ new_temporary_marked counters records.old mappings.old sets.now list.old stack.old.rows stack.old.sets mark }
 {
     let level = mark.level;
     let context = mark.context;
@@ -332,17 +232,14 @@ fn mark_new_temporary(
         counters,
         records,
         mappings,
-        use_sets,
-        use_counts,
-        no_use,
-        conflict,
+        sets,
         mark.variable,
         level,
         context,
         CodeDeque::Empty,
     );
     let reached = placed.reached;
-    if 0 < reached.refusal {
+    if reached.refusal.is_some() {
         return Marked {
             reached,
             place: RegType::Temp(0),
@@ -354,13 +251,9 @@ fn mark_new_temporary(
         after,
         records,
         mappings,
-        use_sets,
-        use_counts,
-        no_use,
-        conflict,
+        sets,
         list,
-        rows,
-        branch_sets,
+        stack,
         mark,
         RegType::Temp(placed.place),
         true,
@@ -373,22 +266,18 @@ fn mark_new_slot(
     counters: Counters,
     records: &mut Records,
     mappings: &mut Mappings,
-    use_sets: &UseSets,
-    use_counts: &UseCounts,
-    no_use: &RegisterSets,
-    conflict: &RegisterSets,
+    sets: &VariableSets,
     list: &mut PermFreeList,
-    rows: &mut BranchRows,
-    branch_sets: &mut BranchSets,
+    stack: &mut BranchStack,
     mark: Mark,
 ) -> Marked
-    ensures { var_mark records.new mappings.new list.new rows.new branch_sets.new result ≡ new_slot_marked counters records.old mappings.old (sets use_sets.now use_counts.now no_use.now conflict.now) list.old rows.old branch_sets.old mark }
+    ensures { var_mark records.new mappings.new list.new stack.new.rows stack.new.sets result ≡ new_slot_marked counters records.old mappings.old sets.now list.old stack.old.rows stack.old.sets mark }
 {
     let context = mark.context;
     let chunk = forms::chunk_num(context);
     let placed = allocation::alloc_perm_var(counters, records, list, mark.variable, chunk);
     let after = placed.counters;
-    if 0 < placed.refusal {
+    if placed.refusal.is_some() {
         return Marked {
             reached: Reached {
                 counters: after,
@@ -402,13 +291,9 @@ fn mark_new_slot(
         after,
         records,
         mappings,
-        use_sets,
-        use_counts,
-        no_use,
-        conflict,
+        sets,
         list,
-        rows,
-        branch_sets,
+        stack,
         mark,
         RegType::Perm(placed.place),
         true,
@@ -421,18 +306,14 @@ fn mark_slot(
     counters: Counters,
     records: &mut Records,
     mappings: &mut Mappings,
-    use_sets: &UseSets,
-    use_counts: &UseCounts,
-    no_use: &RegisterSets,
-    conflict: &RegisterSets,
+    sets: &VariableSets,
     list: &mut PermFreeList,
-    rows: &mut BranchRows,
-    branch_sets: &mut BranchSets,
+    stack: &mut BranchStack,
     mark: Mark,
     slot: u32,
     allocation: PermVarAllocation,
 ) -> Marked
-    ensures { var_mark records.new mappings.new list.new rows.new branch_sets.new result ≡ slot_marked counters records.old mappings.old (sets use_sets.now use_counts.now no_use.now conflict.now) list.old rows.old branch_sets.old mark slot allocation }
+    ensures { var_mark records.new mappings.new list.new stack.new.rows stack.new.sets result ≡ slot_marked counters records.old mappings.old sets.now list.old stack.old.rows stack.old.sets mark slot allocation }
 {
     match allocation {
         PermVarAllocation::Pending => {
@@ -441,33 +322,22 @@ fn mark_slot(
                 counters,
                 records,
                 mappings,
-                use_sets,
-                use_counts,
-                no_use,
-                conflict,
+                sets,
                 list,
-                rows,
-                branch_sets,
+                stack,
                 mark,
                 RegType::Perm(slot),
                 true,
                 CodeDeque::Empty,
             )
         }
-        PermVarAllocation::Done {
-            shallow_safety: _,
-            deep_safety: _,
-        } => mark_at(
+        PermVarAllocation::Done { .. } => mark_at(
             counters,
             records,
             mappings,
-            use_sets,
-            use_counts,
-            no_use,
-            conflict,
+            sets,
             list,
-            rows,
-            branch_sets,
+            stack,
             mark,
             RegType::Perm(slot),
             false,
@@ -481,52 +351,27 @@ pub fn mark_var(
     counters: Counters,
     records: &mut Records,
     mappings: &mut Mappings,
-    use_sets: &UseSets,
-    use_counts: &UseCounts,
-    no_use: &RegisterSets,
-    conflict: &RegisterSets,
+    sets: &VariableSets,
     list: &mut PermFreeList,
-    rows: &mut BranchRows,
-    branch_sets: &mut BranchSets,
+    stack: &mut BranchStack,
     mark: Mark,
 ) -> Marked
-    ensures { var_mark records.new mappings.new list.new rows.new branch_sets.new result ≡ var_marked counters records.old mappings.old (sets use_sets.now use_counts.now no_use.now conflict.now) list.old rows.old branch_sets.old mark }
+    ensures { var_mark records.new mappings.new list.new stack.new.rows stack.new.sets result ≡ var_marked counters records.old mappings.old sets.now list.old stack.old.rows stack.old.sets mark }
 {
     let variable = variable_records::load(records, mark.variable);
     let allocation = variable.allocation;
     match allocation {
-        VarAlloc::Temp {
-            term_loc: _,
-            temp_reg,
-            safety: _,
-            to_perm_var_num: _,
-        } => {
+        VarAlloc::Temp { temp_reg, .. } => {
             if temp_reg == 0 {
-                return mark_new_temporary(
-                    counters,
-                    records,
-                    mappings,
-                    use_sets,
-                    use_counts,
-                    no_use,
-                    conflict,
-                    list,
-                    rows,
-                    branch_sets,
-                    mark,
-                );
+                return mark_new_temporary(counters, records, mappings, sets, list, stack, mark);
             }
             mark_at(
                 counters,
                 records,
                 mappings,
-                use_sets,
-                use_counts,
-                no_use,
-                conflict,
+                sets,
                 list,
-                rows,
-                branch_sets,
+                stack,
                 mark,
                 RegType::Temp(temp_reg),
                 false,
@@ -535,34 +380,10 @@ pub fn mark_var(
         }
         VarAlloc::Perm(slot, allocation) => {
             if slot == 0 {
-                return mark_new_slot(
-                    counters,
-                    records,
-                    mappings,
-                    use_sets,
-                    use_counts,
-                    no_use,
-                    conflict,
-                    list,
-                    rows,
-                    branch_sets,
-                    mark,
-                );
+                return mark_new_slot(counters, records, mappings, sets, list, stack, mark);
             }
             mark_slot(
-                counters,
-                records,
-                mappings,
-                use_sets,
-                use_counts,
-                no_use,
-                conflict,
-                list,
-                rows,
-                branch_sets,
-                mark,
-                slot,
-                allocation,
+                counters, records, mappings, sets, list, stack, mark, slot, allocation,
             )
         }
     }

@@ -1,8 +1,10 @@
 // A register for a new temporary: an argument's register is emptied first, all others are chosen apart.
+//
+// Each function is lent the tables that it looks at and no others, so that its signature says what it leaves alone.
 #![tactic(auto)]
 
 ghost use Rattle.std.specs.Prelude.{◌≡◌};
-ghost use Rattle.evacuation.specs.Evacuation.{sets, evacuation};
+ghost use Rattle.evacuation.specs.Evacuation.{evacuation};
 ghost use Rattle.marks.specs.Marks.{
   chosen_or_refused,
   alloc_apart,
@@ -12,14 +14,13 @@ ghost use Rattle.marks.specs.Marks.{
 };
 
 use allocator_state::Counters;
-use choice::Chosen;
 use code_deque::CodeDeque;
 use evacuation::Reached;
 use forms::{GenContext, Level};
-use register_sets::RegisterSets;
+use refusals::Refusal;
 use registers::RegType;
+use restricting_sets::VariableSets;
 use shallow_temp_mappings::Mappings;
-use temp_var_data::{UseCounts, UseSets};
 use variable_records::Records;
 
 // How far an event has come, with the register that it chose.
@@ -37,18 +38,15 @@ pub struct Marked {
 }
 
 // The register that was chosen, or the refusal that there is none.
-fn chosen_or_refused(reached: Reached, chosen: Chosen) -> RegPlaced
+fn chosen_or_refused(reached: Reached, chosen: Option<u32>) -> RegPlaced
     ensures { result ≡ chosen_or_refused reached chosen }
 {
-    let counters = reached.counters;
-    let code = reached.code;
     match chosen {
-        Chosen::Register(r) => RegPlaced { reached, place: r },
-        Chosen::NoRegister => RegPlaced {
+        Some(r) => RegPlaced { reached, place: r },
+        None => RegPlaced {
             reached: Reached {
-                counters,
-                code,
-                refusal: refusals::REGISTER,
+                refusal: Some(Refusal::Register),
+                ..reached
             },
             place: 0,
         },
@@ -56,18 +54,10 @@ fn chosen_or_refused(reached: Reached, chosen: Chosen) -> RegPlaced
 }
 
 // A register for a variable that is no argument's: its conflict set is heeded.
-fn alloc_apart(
-    counters: Counters,
-    use_sets: &UseSets,
-    use_counts: &UseCounts,
-    no_use: &RegisterSets,
-    conflict: &RegisterSets,
-    v: u32,
-    code: CodeDeque,
-) -> RegPlaced
-    ensures { result ≡ alloc_apart counters (sets use_sets.now use_counts.now no_use.now conflict.now) v code }
+fn alloc_apart(counters: Counters, sets: &VariableSets, v: u32, code: CodeDeque) -> RegPlaced
+    ensures { result ≡ alloc_apart counters sets.now v code }
 {
-    let chosen = evacuation::alloc_with_ca(counters, use_sets, use_counts, no_use, conflict, v);
+    let chosen = evacuation::alloc_with_ca(counters, sets, v);
     chosen_or_refused(evacuation::going(counters, code), chosen)
 }
 
@@ -76,24 +66,19 @@ fn alloc_shallow(
     counters: Counters,
     records: &mut Records,
     mappings: &mut Mappings,
-    use_sets: &UseSets,
-    use_counts: &UseCounts,
-    no_use: &RegisterSets,
-    conflict: &RegisterSets,
+    sets: &VariableSets,
     v: u32,
     chunk: u32,
     code: CodeDeque,
 ) -> RegPlaced
-    ensures { register_placement records.new mappings.new result ≡ alloc_shallow counters records.old mappings.old (sets use_sets.now use_counts.now no_use.now conflict.now) v chunk code }
+    ensures { register_placement records.new mappings.new result ≡ alloc_shallow counters records.old mappings.old sets.now v chunk code }
 {
-    let reached = evacuation::evacuate_arg(
-        counters, records, mappings, use_sets, use_counts, no_use, conflict, chunk, code,
-    );
-    if 0 < reached.refusal {
+    let reached = evacuation::evacuate_arg(counters, records, mappings, sets, chunk, code);
+    if reached.refusal.is_some() {
         return RegPlaced { reached, place: 0 };
     }
     let emptied = reached.counters;
-    let chosen = evacuation::alloc_with_cr(emptied, use_sets, use_counts, no_use, v);
+    let chosen = evacuation::alloc_with_cr(emptied, sets, v);
     chosen_or_refused(reached, chosen)
 }
 
@@ -102,29 +87,21 @@ pub fn alloc_reg_to_var(
     counters: Counters,
     records: &mut Records,
     mappings: &mut Mappings,
-    use_sets: &UseSets,
-    use_counts: &UseCounts,
-    no_use: &RegisterSets,
-    conflict: &RegisterSets,
+    sets: &VariableSets,
     v: u32,
     level: Level,
     context: GenContext,
     code: CodeDeque,
 ) -> RegPlaced
-    ensures { register_placement records.new mappings.new result ≡ register_placed counters records.old mappings.old (sets use_sets.now use_counts.now no_use.now conflict.now) v level context code }
+    ensures { register_placement records.new mappings.new result ≡ register_placed counters records.old mappings.old sets.now v level context code }
 {
     match level {
-        Level::Root => alloc_apart(counters, use_sets, use_counts, no_use, conflict, v, code),
-        Level::Deep => alloc_apart(counters, use_sets, use_counts, no_use, conflict, v, code),
+        Level::Root | Level::Deep => alloc_apart(counters, sets, v, code),
         Level::Shallow => match context {
-            GenContext::Mid(_) => {
-                alloc_apart(counters, use_sets, use_counts, no_use, conflict, v, code)
-            }
-            GenContext::Head => alloc_shallow(
-                counters, records, mappings, use_sets, use_counts, no_use, conflict, v, 0, code,
-            ),
+            GenContext::Mid(_) => { alloc_apart(counters, sets, v, code) }
+            GenContext::Head => alloc_shallow(counters, records, mappings, sets, v, 0, code),
             GenContext::Last(chunk) => alloc_shallow(
-                counters, records, mappings, use_sets, use_counts, no_use, conflict, v, chunk, code,
+                counters, records, mappings, sets, v, chunk, code,
             ),
         },
     }

@@ -1,11 +1,13 @@
 -- Rule 25.2: two answers that meet a contract are equal, result, state and every lent byte. Those of check sheets stand in
 -- check_exactly.
-use Rattle.std.specs.Prelude.{ℕ, ◌≡◌, List}
+use Rattle.std.specs.Prelude.{ℕ, ◌≡◌, List, Option}
 use Rattle.std.proofs.Common.{ap₂}
 use Rattle.notation.specs.EquationLaws.{no_second, no_second_part}
+use Rattle.refusals.specs.declared.Refusal.{Refusal}
 use Rattle.printing.specs.PrintingLaws.{put_unique}
 use Rattle.temp_var_data.specs.Uses.{UseAdded}
-use Rattle.restricting_sets.specs.Restricting.{Populated}
+use Rattle.restricting_sets.specs.declared.VariableSets.{VariableSets}
+use Rattle.restricting_sets.specs.Restricting.{sets as variable_sets, Populated}
 use Rattle.allocator_state.specs.declared.Counters.{Counters}
 use Rattle.evacuation.specs.declared.Reached.{Reached}
 use Rattle.evacuation.specs.Evacuation.{Evacuation, evacuation}
@@ -20,12 +22,12 @@ use Rattle.marks.specs.Marks.{RegisterPlacement, register_placement}
 use Rattle.mark_var.specs.MarkVar.{VarMark, var_mark}
 use Rattle.other_marks.specs.OtherMarks.{MarkOf, mark_of, CutOf, cut_of}
 use Rattle.resets.specs.Resets.{Heading, heading, Clearing, clearing, Answer, answer}
-use Rattle.clause_records.specs.ClauseRecords.{rows, Recording, recording, TempRecording, temp_recording}
-use Rattle.clause_records.specs.ClauseRecords.{Restricting, restricting}
+use Rattle.clause_records.specs.ClauseRecords.{rows, Recording, recording}
 use Rattle.branch_events.specs.BranchEvents.{Stack, stack_of, BranchStep, branch_of}
+use Rattle.debray_allocator.specs.declared.State.{State}
 use Rattle.debray_allocator.specs.declared.Acted.{Acted}
 use Rattle.debray_allocator.specs.declared.Answer.{Answer as StepAnswer}
-use Rattle.debray_allocator.specs.DebrayAllocator.{answer_of}
+use Rattle.debray_allocator.specs.DebrayAllocator.{answer_of, acted_of}
 use Rattle.answers.specs.declared.Adding.{Adding}
 use Rattle.answers.specs.Adding.{Added}
 
@@ -60,7 +62,7 @@ cut_of_unique x y = (
 
 -- `resets`: increment_running_count, mark_safe_var_unconditionally
 pub answer_unique :
-    {records records' : List ℕ} {r r' : ℕ} {meaning : Answer}
+    {records records' : List ℕ} {r r' : Option Refusal} {meaning : Answer}
     → answer records r ≡ meaning → answer records' r' ≡ meaning → (records ≡ records') × (r ≡ r')
 answer_unique x y = (
   no_second_part (λ (a : Answer). a.records) x y,
@@ -156,12 +158,8 @@ stack_of_unique x y = (
 
 -- `clause_records`: populate
 pub restricting_unique :
-    {no_use no_use' conflict conflict' : List ℕ} {meaning : Restricting}
-    → restricting no_use conflict ≡ meaning → restricting no_use' conflict' ≡ meaning → (no_use ≡ no_use') × (conflict ≡ conflict')
-restricting_unique x y = (
-  no_second_part (λ (s : Restricting). s.no_use) x y,
-  no_second_part (λ (s : Restricting). s.conflict) x y,
-)
+    {sets sets' meaning : VariableSets} → sets ≡ meaning → sets' ≡ meaning → sets ≡ sets'
+restricting_unique x y = no_second x y
 
 -- ---- More tables, and the result
 
@@ -177,35 +175,15 @@ branch_of_unique x y = (
   no_second_part (λ (b : BranchStep). b.released) x y,
 )
 
--- `clause_records`: add_perm
+-- `clause_records`: add_perm, add_temp
 pub recording_unique :
-    {records records' use_counts use_counts' no_use no_use' conflict conflict' : List ℕ} {r r' : Released} {meaning : Recording}
-    → recording (rows records use_counts no_use conflict) r ≡ meaning
-    → recording (rows records' use_counts' no_use' conflict') r' ≡ meaning
-    → (records ≡ records') × (use_counts ≡ use_counts') × (no_use ≡ no_use') × (conflict ≡ conflict') × (r ≡ r')
+    {records records' : List ℕ} {sets sets' : VariableSets} {r r' : Released} {meaning : Recording}
+    → recording (rows records sets) r ≡ meaning → recording (rows records' sets') r' ≡ meaning
+    → (records ≡ records') × (sets ≡ sets') × (r ≡ r')
 recording_unique x y = (
   no_second_part (λ (t : Recording). t.tables.records) x y,
-  no_second_part (λ (t : Recording). t.tables.use_counts) x y,
-  no_second_part (λ (t : Recording). t.tables.no_use) x y,
-  no_second_part (λ (t : Recording). t.tables.conflict) x y,
+  no_second_part (λ (t : Recording). t.tables.sets) x y,
   no_second_part (λ (t : Recording). t.released) x y,
-)
-
--- `clause_records`: add_temp
-pub temp_recording_unique :
-    {records records' use_counts use_counts' no_use no_use' conflict conflict' use_sets use_sets' : List ℕ}
-    {r r' : Released} {meaning : TempRecording}
-    → temp_recording (rows records use_counts no_use conflict) use_sets r ≡ meaning
-    → temp_recording (rows records' use_counts' no_use' conflict') use_sets' r' ≡ meaning
-    → (records ≡ records') × (use_counts ≡ use_counts') × (no_use ≡ no_use') × (conflict ≡ conflict') × (use_sets ≡ use_sets')
-    × (r ≡ r')
-temp_recording_unique x y = (
-  no_second_part (λ (t : TempRecording). t.tables.records) x y,
-  no_second_part (λ (t : TempRecording). t.tables.use_counts) x y,
-  no_second_part (λ (t : TempRecording). t.tables.no_use) x y,
-  no_second_part (λ (t : TempRecording). t.tables.conflict) x y,
-  no_second_part (λ (t : TempRecording). t.use_sets) x y,
-  no_second_part (λ (t : TempRecording). t.released) x y,
 )
 
 -- `mark_var`: mark_var
@@ -224,35 +202,16 @@ var_mark_unique x y = (
   no_second_part (λ (m : VarMark). m.marked) x y,
 )
 
--- ---- Every table, and a result of several parts
+-- ---- The whole state, and a result of several parts
 
 -- `debray_allocator`: act
 pub answer_of_unique :
-    {records records' use_sets use_sets' use_counts use_counts' no_use no_use' conflict conflict' mappings mappings' : List ℕ}
-    {freed_registers freed_registers' freed_slots freed_slots' branch_rows branch_rows' branch_sets branch_sets' : List ℕ}
-    {r r' : Acted} {meaning : StepAnswer}
-    → answer_of records use_sets use_counts no_use conflict mappings freed_registers freed_slots branch_rows branch_sets r ≡ meaning
-    → answer_of records' use_sets' use_counts' no_use' conflict' mappings' freed_registers' freed_slots' branch_rows' branch_sets' r'
-    ≡ meaning
-    → (records ≡ records') × (use_sets ≡ use_sets') × (use_counts ≡ use_counts') × (no_use ≡ no_use') × (conflict ≡ conflict')
-    × (mappings ≡ mappings') × (freed_registers ≡ freed_registers') × (freed_slots ≡ freed_slots')
-    × (branch_rows ≡ branch_rows') × (branch_sets ≡ branch_sets') × (r ≡ r')
+    {s s' : State} {r r' : Acted} {meaning : StepAnswer}
+    → answer_of s r ≡ meaning → answer_of s' r' ≡ meaning → (s ≡ s') × (r ≡ r')
 answer_of_unique x y = (
-  no_second_part (λ (a : StepAnswer). a.state.records) x y,
-  no_second_part (λ (a : StepAnswer). a.state.use_sets) x y,
-  no_second_part (λ (a : StepAnswer). a.state.use_counts) x y,
-  no_second_part (λ (a : StepAnswer). a.state.no_use) x y,
-  no_second_part (λ (a : StepAnswer). a.state.conflict) x y,
-  no_second_part (λ (a : StepAnswer). a.state.mappings) x y,
-  no_second_part (λ (a : StepAnswer). a.state.freed_registers) x y,
-  no_second_part (λ (a : StepAnswer). a.state.freed_slots) x y,
-  no_second_part (λ (a : StepAnswer). a.state.branch_rows) x y,
-  no_second_part (λ (a : StepAnswer). a.state.branch_sets) x y,
+  no_second_part (λ (a : StepAnswer). a.state) x y,
   no_second_part acted_of x y,
 )
-  where
-    acted_of : StepAnswer → Acted
-    acted_of a = record { counters = a.state.counters; code = a.code; at = a.at; refusal = a.refusal }
 
 -- ---- Records of equations: `Put` has `put_unique` in `printing`
 
@@ -279,8 +238,10 @@ use_added_unique x y = (no_second x.sets y.sets, no_second x.counts y.counts)
 
 -- `restricting_sets`: populate_restricting_sets
 pub populated_unique :
-    {use_sets use_counts chunks no_use conflict no_use_after no_use_after' conflict_after conflict_after' : List ℕ}
-    → Populated use_sets use_counts chunks no_use conflict no_use_after conflict_after
-    → Populated use_sets use_counts chunks no_use conflict no_use_after' conflict_after'
-    → (no_use_after ≡ no_use_after') × (conflict_after ≡ conflict_after')
-populated_unique x y = (no_second x.no_uses y.no_uses, no_second x.conflicts y.conflicts)
+    {chunks : List (Option ℕ)} {before after after' : VariableSets}
+    → Populated chunks before after → Populated chunks before after' → after ≡ after'
+populated_unique {chunks} {before} {after} {after'} x y =
+    let same : variable_sets after.use_sets after.use_counts after.no_use after.conflict
+    ≡ variable_sets after'.use_sets after'.use_counts after'.no_use after'.conflict =
+    simp (x.use_sets, x.use_counts, x.no_uses, x.conflicts, y.use_sets, y.use_counts, y.no_uses, y.conflicts) in
+    same

@@ -1,5 +1,5 @@
 -- What is printed reads back, and what reads was printed so, rules 2.3 and 2.5: no number has two spellings.
-use Rattle.std.specs.Prelude.{ℕ, zero, suc, ◌+◌, ◌-◌, ◌*◌, ◌/◌, ◌%◌, ◌^◌, ◌≤◌, ◌<◌, ◌≡◌, refl, List, [], ◌∷◌, ◌++◌, true, false, not, ◌&&◌, leb, ltb, length, get_or}
+use Rattle.std.specs.Prelude.{ℕ, zero, suc, ◌+◌, ◌-◌, ◌*◌, ◌/◌, ◌%◌, ◌^◌, ◌≤◌, ◌<◌, ◌≡◌, refl, List, [], ◌∷◌, ◌++◌, true, false, not, ◌&&◌, leb, ltb, length, get_or, Some, None}
 use Rattle.std.proofs.Common.{ap, sym, ◌∙◌, append_assoc, append-nil, arith, pow-suc, length-append, le-leb, lt-ltb, leb-true, ltb-true, ltb-false}
 use Rattle.std.proofs.Math.Arith.{digits_div, digits_mod}
 use Rattle.std.proofs.Math.ListN.{get_or-append}
@@ -8,7 +8,6 @@ use Rattle.std.specs.Prelude.{if◌then◌else◌}
 use Rattle.notation.specs.ChoiceLaws.{both_true}
 use Rattle.notation.specs.Text.{byte}
 use Rattle.sizes.specs.Sizes.{largest_number}
-use Rattle.numbers.specs.declared.Number.TheVariants.{Of, Malformed}
 use Rattle.numbers.specs.Numbers.{is_digit, all_digits, value_from, needless_zero, is_number, number_of, digit, written, decimal}
 use Rattle.numbers.specs.ReadLaws.{value_grows, needless_not}
 use Rattle.numbers.specs.DecimalLaws.{written-digit, written_more, decimal_digit, decimal_more}
@@ -76,7 +75,7 @@ printed (suc k) n h =
     refl
 
 -- what is printed reads back
-number-printed : (s : List ℕ) (n : ℕ) → Printed s n → n ≤ largest_number → needless_zero s ≡ false → number_of s ≡ Of n
+number-printed : (s : List ℕ) (n : ℕ) → Printed s n → n ≤ largest_number → needless_zero s ≡ false → number_of s ≡ Some n
 unfolding number_of is_number
 number-printed s n p m z = simp (p.digits, p.value, lt-ltb _ _ p.some, le-leb _ _ m, z)
 
@@ -84,11 +83,11 @@ needless_one : (c : ℕ) → needless_zero (c ∷ []) ≡ false
 unfolding needless_zero
 needless_one c = refl
 
-pub printed-is-read : (n : ℕ) → n ≤ largest_number → number_of (decimal n) ≡ Of n
+pub printed-is-read : (n : ℕ) → n ≤ largest_number → number_of (decimal n) ≡ Some n
 unfolding decimal
 printed-is-read n h =
     let p : Printed (written 10 n) n = printed 9 n (omega arith) in
-    elim (ltb 0 n) as (λ t. ltb 0 n ≡ t → number_of (written 10 n) ≡ Of n) [
+    elim (ltb 0 n) as (λ t. ltb 0 n ≡ t → number_of (written 10 n) ≡ Some n) [
       | true ↦ λ e. number-printed _ n p h (needless_not _ (p.first (ltb-true 0 n e)))
       | false ↦ λ e. number-printed _ n p h (rw (written-digit 9 n (omega (arith, ltb-false 0 n e))) (needless_one (digit n)))
     ]
@@ -96,7 +95,7 @@ printed-is-read n h =
 
 -- ---- What reads was printed so
 
-never : (n : ℕ) → Malformed ≡ Of n → ⊥
+never : (n : ℕ) → None ≡ Some n → ⊥
 never n e = let z : ◌≡◌ {A = ℕ} 0 1 = cc in omega arith
 
 -- a field that reads as n: what its digits are
@@ -107,10 +106,10 @@ record Reads (s : List ℕ) (n : ℕ) : Type 0 where
   fits : n ≤ largest_number
   needed : needless_zero s ≡ false
 
-reads : (s : List ℕ) (n : ℕ) → number_of s ≡ Of n → Reads s n
+reads : (s : List ℕ) (n : ℕ) → number_of s ≡ Some n → Reads s n
 unfolding number_of is_number
 reads s n h =
-    (elim (is_number s) as (λ t. is_number s ≡ t → (if t then Of (value_from 0 s) else Malformed) ≡ Of n → Reads s n) [
+    (elim (is_number s) as (λ t. is_number s ≡ t → (if t then Some (value_from 0 s) else None) ≡ Some n → Reads s n) [
       | true ↦ λ e o. (let v : value_from 0 s ≡ n = cc in
           let b = both_true _ (not (needless_zero s)) e in
           let f = both_true _ (leb (value_from 0 s) largest_number) b.0 in
@@ -187,11 +186,11 @@ read_many c d cs n r =
     ∙ ap (λ (x : List ℕ). x ++ (d ∷ cs)) (decimal_digit (c - byte "0") (omega (arith, g.high)) ∙ ap (λ (x : ℕ). x ∷ []) k))
 
 -- what reads as n is n as it is printed
-pub read-is-printed : (s : List ℕ) (n : ℕ) → number_of s ≡ Of n → s ≡ decimal n
+pub read-is-printed : (s : List ℕ) (n : ℕ) → number_of s ≡ Some n → s ≡ decimal n
 read-is-printed [] n h = absurd (let r = reads [] n h in omega (arith, r.some))
 read-is-printed (c ∷ []) n h = read_one c n (reads (c ∷ []) n h)
 read-is-printed (c ∷ (d ∷ cs)) n h = read_many c d cs n (reads (c ∷ (d ∷ cs)) n h)
 
 -- so no number has two spellings
-pub one_spelling : (s t : List ℕ) (n : ℕ) → number_of s ≡ Of n → number_of t ≡ Of n → s ≡ t
+pub one_spelling : (s t : List ℕ) (n : ℕ) → number_of s ≡ Some n → number_of t ≡ Some n → s ≡ t
 one_spelling s t n hs ht = read-is-printed s n hs ∙ sym (read-is-printed t n ht)

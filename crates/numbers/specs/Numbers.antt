@@ -1,10 +1,8 @@
 -- Numbers, as a field has them and as they are printed.
-use Rattle.std.specs.Prelude.{ℕ, zero, suc, ◌+◌, ◌-◌, ◌*◌, ◌/◌, ◌%◌, List, [], ◌∷◌, ◌++◌, Bool, true, false, not, ◌&&◌, eqb, leb, ltb, length}
+use Rattle.std.specs.Prelude.{ℕ, zero, suc, ◌+◌, ◌-◌, ◌*◌, ◌/◌, ◌%◌, List, [], ◌∷◌, ◌++◌, Bool, true, false, not, ◌&&◌, eqb, leb, ltb, length, Option, Some, None}
 use Rattle.std.specs.Prelude.{if◌then◌else◌}
 use Rattle.notation.specs.Text.{byte}
 use Rattle.sizes.specs.Sizes.{largest_number}
-use Rattle.numbers.specs.declared.Number.{Number}
-use Rattle.numbers.specs.declared.Number.TheVariants.{Of, Malformed}
 
 -- ---- What a field says: rule 2.3
 
@@ -29,8 +27,8 @@ needless_zero (c ∷ (d ∷ cs)) = eqb c (byte "0")
 unfoldable pub is_number : List ℕ → Bool
 is_number s = ltb 0 (length s) && all_digits s && leb (value_from 0 s) largest_number && not (needless_zero s)
 
-unfoldable pub number_of : List ℕ → Number
-number_of s = if is_number s then Of (value_from 0 s) else Malformed
+unfoldable pub number_of : List ℕ → Option ℕ
+number_of s = if is_number s then Some (value_from 0 s) else None
 
 -- ---- How a number is printed: rule 2.5
 

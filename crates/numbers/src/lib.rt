@@ -9,56 +9,31 @@ use sizes::LAST_NUMBER;
 
 const ZERO: u8 = b'0';
 
-const NINE: u8 = b'9';
-
-// What a field says as a number.
-#[derive(Clone, Copy)]
-pub enum Number {
-    Of(u32),
-    Malformed,
-}
-
-// The number that the field writes.
-pub fn read(field: &[u8]) -> Number
+// The number that the field writes; none where it writes no number.
+pub fn read(field: &[u8]) -> Option<u32>
     ensures { result ≡ number_of field.now }
 {
-    if field.len() == 0 {
-        return Number::Malformed;
+    match field {
+        [] => None,
+        [ZERO] => Some(0),
+        [ZERO, ..] => None,
+        _ => digits(field),
     }
-    if field[0] == ZERO {
-        if field.len() == 1 {
-            return Number::Of(0);
-        }
-        return Number::Malformed;
-    }
-    digits(field)
 }
 
 // The number that the digits write, however many zeros stand in front.
-fn digits(field: &[u8]) -> Number
+fn digits(field: &[u8]) -> Option<u32>
     ensures { result ≡ read_from 0 field.now }
 {
     let mut value: u64 = 0;
-    let mut i = 0;
-    while i < field.len() {
-        let c = field[i];
-        if c < ZERO {
-            return Number::Malformed;
+    for &c in field {
+        if !c.is_ascii_digit() {
+            return None;
         }
-        if NINE < c {
-            return Number::Malformed;
-        }
-        value = value * 10 + wide(c - ZERO);
+        value = value * 10 + u64::from(c - ZERO);
         if (LAST_NUMBER as u64) < value {
-            return Number::Malformed;
+            return None;
         }
-        i += 1;
     }
-    Number::Of(value as u32)
-}
-
-fn wide(digit: u8) -> u64
-    ensures { result ≡ digit }
-{
-    digit as u64
+    Some(value as u32)
 }

@@ -20,7 +20,8 @@ use Rattle.machine.specs.Machine.{Contents, same_place, written, spoilt, Machine
 use Rattle.classes.specs.Cases.{less_or_not}
 use Rattle.classes.specs.Classes.{in_names}
 use Rattle.symbolic.specs.Names.{place_name, step_name, place_cells, call_name, no_name, pair_cells}
-use Rattle.symbolic.specs.Symbolic.{pushed, listed, Doing, doing, held, put, did, spoilt_up_to}
+use Rattle.symbolic.specs.declared.Doing.{Doing}
+use Rattle.symbolic.specs.Symbolic.{pushed, listed, doing, held, put, did, spoilt_up_to}
 use Rattle.symbolic.specs.TablesLaws.{length-spoilt}
 use Rattle.on_names.specs.OnNames.{both, named}
 use Rattle.on_names.proofs.PairsLaws.{snoc_map, Table, table_more, listed-pushed, table-pushed, labelled_pushed}
@@ -171,7 +172,7 @@ module _ (ρ : ℕ → ℕ) (step x y : ℕ) (d : Doing) (m : Machine) (a : Acts
       }
 
   acts_demands :
-      2 * x + 2 ≤ pair_cells → (name other n k : ℕ) → name < no_name → other < no_name → n ≡ ρ name → k ≡ ρ other
+      x < pair_cells → (name other n k : ℕ) → name < no_name → other < no_name → n ≡ ρ name → k ≡ ρ other
       → Acts ρ step (suc x) y (doing d.places (pushed d.demands name other) d.made) (demands m n k)
   acts_demands room name other n k low low' same same' =
       record {
@@ -187,7 +188,7 @@ module _ (ρ : ℕ → ℕ) (step x y : ℕ) (d : Doing) (m : Machine) (a : Acts
       }
 
   acts_adds :
-      2 * y + 2 ≤ pair_cells → (name n : ℕ) → n ≡ ρ name
+      y < pair_cells → (name n : ℕ) → n ≡ ρ name
       → Acts ρ step x (suc y) (doing d.places d.demands (pushed d.made step name)) (adds m n)
   acts_adds room name n same =
       record {
@@ -214,7 +215,7 @@ module _
     (m : Machine)
     (a : Acts ρ step most most d m)
     (few : step ≤ steps)
-    (room : 2 * most + 2 ≤ pair_cells)
+    (room : most < pair_cells)
   where
     own_name : step_name step < no_name
     own_name = omega arith

@@ -1,7 +1,7 @@
 -- Laws of what the steps want: under a choice each variable's value, and what is wanted, is the value of the name in its place.
-use Rattle.std.specs.Prelude.{ℕ, suc, ◌+◌, ◌*◌, ◌≤◌, ◌<◌, ◌≡◌, refl, true, false, eqb, length, get_or, set}
+use Rattle.std.specs.Prelude.{ℕ, suc, ◌≤◌, ◌<◌, ◌≡◌, refl, true, false, eqb, length, get_or, set, Option, Some, None}
 use Rattle.std.proofs.Math.Path.{sym}
-use Rattle.std.proofs.Common.{ap, ◌∙◌, length-set, get_or-set_same, get_or-set_other, eqb-true, eq-eqb, ne_eqb, ltb-true}
+use Rattle.std.proofs.Common.{ap, ◌∙◌, length-set, get_or-set_same, get_or-set_other, eqb-true, ltb-true}
 use mathlib.Core.List.{List, [], ◌∷◌, ◌++◌, map, append-nil}
 use native.Mathlib.Omega.{arith}
 use Rattle.std.proofs.lemmas.Bool.{eqb-false}
@@ -17,68 +17,69 @@ use Rattle.machine.specs.Machine.{Contents}
 use Rattle.machine.specs.Wanted.{Value, unfixed, fixed, Wanted, value_or, valued, demanded, wants}
 use Rattle.classes.specs.Classes.{in_names}
 use Rattle.symbolic.specs.Names.{place_name, step_name, no_name, pair_cells}
-use Rattle.symbolic.specs.Symbolic.{Pairs, pushed, listed, Wanting, value_of, again, wanted}
+use Rattle.symbolic.specs.declared.Pairs.{Pairs}
+use Rattle.symbolic.specs.declared.Wanting.{Wanting}
+use Rattle.symbolic.specs.Symbolic.{pushed, listed, value_of, again, wanted}
 use Rattle.on_names.specs.OnNames.{both, named}
 use Rattle.on_names.proofs.ChoiceLaws.{Agrees}
 use Rattle.on_names.proofs.PairsLaws.{snoc_map, Table, table_more, listed-pushed, table-pushed, labelled_pushed}
 
 -- ---- The name in the place of a variable's value
 
-abbrev pub ValueNamed : (ℕ → ℕ) → ℕ → Value → Type 0
-ValueNamed ρ name unfixed = name ≡ no_name
-ValueNamed ρ name (fixed n) = (name < no_name) × (n ≡ ρ name)
+abbrev pub ValueNamed : (ℕ → ℕ) → Option ℕ → Value → Type 0
+ValueNamed ρ held unfixed = held ≡ None
+ValueNamed ρ held (fixed n) = (name : ℕ) × (held ≡ Some name) × (name < no_name) × (n ≡ ρ name)
 
-pub record Values (ρ : ℕ → ℕ) (names : List ℕ) (values : ℕ → Value) : Type 0 where
+pub record Values (ρ : ℕ → ℕ) (names : List (Option ℕ)) (values : ℕ → Value) : Type 0 where
   pub size : length names ≡ variables
-  pub stands : (v : ℕ) → v < variables → ValueNamed ρ (get_or names v 0) (values v)
+  pub stands : (v : ℕ) → v < variables → ValueNamed ρ (get_or names v None) (values v)
 
 -- a value, where a step offers a name, whose value is n
 module _ (ρ : ℕ → ℕ) (offered n : ℕ) (low : offered < no_name) (same : n ≡ ρ offered) where
   pub value_stands :
-      (name : ℕ) (value : Value) → ValueNamed ρ name value → (value_of name offered < no_name) × (value_or value n ≡ ρ (value_of name offered))
+      (held : Option ℕ) (value : Value) → ValueNamed ρ held value
+      → (value_of held offered < no_name) × (value_or value n ≡ ρ (value_of held offered))
   unfolding value_of
-  value_stands name unfixed h = simp (eq-eqb name no_name h) (low, same)
-  value_stands name (fixed k) h =
-      let differ : name ≡ no_name → ⊥ = λ e. omega arith in
-      simp (ne_eqb name no_name differ) h
+  value_stands held unfixed h = simp h (low, same)
+  value_stands held (fixed k) h = simp h.1 (h.2, h.3)
 
   -- what a later head step demands
   pub again_stands :
-      (most : ℕ) → 2 * most + 2 ≤ pair_cells → (wants : Pairs) → Table most wants → in_names (listed wants) ≡ true
+      (most : ℕ) → most < pair_cells → (wants : Pairs) → Table most wants → in_names (listed wants) ≡ true
       → (equalities : List (ℕ × ℕ)) → equalities ≡ map (both ρ) (listed wants)
-      → (name : ℕ) (value : Value) → ValueNamed ρ name value
-      → Table (suc most) (again wants name offered)
-      × (in_names (listed (again wants name offered)) ≡ true)
-      × (equalities ++ demanded value n ≡ map (both ρ) (listed (again wants name offered)))
+      → (held : Option ℕ) (value : Value) → ValueNamed ρ held value
+      → Table (suc most) (again wants held offered)
+      × (in_names (listed (again wants held offered)) ≡ true)
+      × (equalities ++ demanded value n ≡ map (both ρ) (listed (again wants held offered)))
   unfolding again
-  again_stands most room wants t named equalities e name unfixed h =
-      simp (eq-eqb name no_name h) (table_more (suc most) (omega arith) t, named, append-nil equalities ∙ e)
-  again_stands most room wants t named equalities e name (fixed k) h =
-      let differ : name ≡ no_name → ⊥ = λ e. omega arith in
-      simp (ne_eqb name no_name differ) (
+  again_stands most room wants t named equalities e held unfixed h =
+      simp h (table_more (suc most) (omega arith) t, named, append-nil equalities ∙ e)
+  again_stands most room wants t named equalities e held (fixed k) h =
+      let name = h.0 in
+      simp h.1 (
         table-pushed most wants name offered t room,
-        labelled_pushed most wants name offered t room h.0 low named,
-        snoc_map (both ρ) (listed wants) (name, offered) equalities (k, n) e (λ i. (h.1 i, same i))
+        labelled_pushed most wants name offered t room h.2 low named,
+        snoc_map (both ρ) (listed wants) (name, offered) equalities (k, n) e (λ i. (h.3 i, same i))
             ∙ sym (ap (map (both ρ)) (listed-pushed most wants name offered t room)),
       )
 
   pub values_fixed :
-      (names : List ℕ) (values : ℕ → Value) → Values ρ names values → (v : ℕ) → v < variables
-      → Values ρ (set names v (value_of (get_or names v 0) offered)) (valued v (value_or (values v) n) values)
+      (names : List (Option ℕ)) (values : ℕ → Value) → Values ρ names values → (v : ℕ) → v < variables
+      → Values ρ (set names v (Some (value_of (get_or names v None) offered))) (valued v (value_or (values v) n) values)
   values_fixed names values h v small =
-      let name = value_of (get_or names v 0) offered in
-      let now = value_stands (get_or names v 0) (values v) (h.stands v small) in
+      let name = value_of (get_or names v None) offered in
+      let now = value_stands (get_or names v None) (values v) (h.stands v small) in
       let here : v < length names = omega (arith, h.size) in
       record {
-        size = length-set names v name ∙ h.size;
+        size = length-set names v (Some name) ∙ h.size;
         stands = λ other fits. (
             (elim (eqb other v) as
-            (λ t. eqb other v ≡ t → ValueNamed ρ (get_or (set names v name) other 0) (if t then fixed (value_or (values v) n) else values other)) [
+            (λ t. eqb other v ≡ t → ValueNamed ρ (get_or (set names v (Some name)) other None) (if t then fixed (value_or (values v) n) else values other)) [
               | true ↦ λ e. (
-                  let its_own : get_or (set names v name) other 0 ≡ name = rw (eqb-true other v e) (get_or-set_same names v name 0 here) in
-                  rw its_own now
+                  let its_own : get_or (set names v (Some name)) other None ≡ Some name = rw (eqb-true other v e) (get_or-set_same names v (Some name) None here) in
+                  (name, its_own, now.0, now.1)
                   )
-              | false ↦ λ e. rw (get_or-set_other names v other name 0 (eqb-false other v e)) (h.stands other fits)
+              | false ↦ λ e. rw (get_or-set_other names v other (Some name) None (eqb-false other v e)) (h.stands other fits)
             ])
             refl
             );
@@ -109,7 +110,7 @@ module _
     (wanted-so-far : Wanted)
     (a : Asks ρ step w wanted-so-far)
   where
-    room : 2 * step + 2 ≤ pair_cells
+    room : step < pair_cells
     room = omega arith
 
     counted : suc wanted-so-far.steps ≡ next
@@ -130,9 +131,9 @@ module _
 
     demands-again :
         (offered n : ℕ) → offered < no_name → n ≡ ρ offered → (v : ℕ) → v < variables
-        → Table (suc step) (again w.wants (get_or w.values v 0) offered)
-        × (in_names (listed (again w.wants (get_or w.values v 0) offered)) ≡ true)
-        × (wanted-so-far.equalities ++ demanded (wanted-so-far.values v) n ≡ map (both ρ) (listed (again w.wants (get_or w.values v 0) offered)))
+        → Table (suc step) (again w.wants (get_or w.values v None) offered)
+        × (in_names (listed (again w.wants (get_or w.values v None) offered)) ≡ true)
+        × (wanted-so-far.equalities ++ demanded (wanted-so-far.values v) n ≡ map (both ρ) (listed (again w.wants (get_or w.values v None) offered)))
     demands-again offered n low same v small =
         again_stands
         ρ
@@ -147,7 +148,7 @@ module _
         a.wants_labelled
         wanted-so-far.equalities
         a.equalities
-        (get_or w.values v 0)
+        (get_or w.values v None)
         (wanted-so-far.values v)
         (a.values.stands v small)
 
@@ -184,8 +185,8 @@ module _
         let o = step_name next in
         let n = number (suc wanted-so-far.steps) in
         let demand = demands-again o n own_name offers v small in
-        let value = value_stands ρ o n own_name offers (get_or w.values v 0) (wanted-so-far.values v) (a.values.stands v small) in
-        let due-now = subterm_due (value_of (get_or w.values v 0) o) (value_or (wanted-so-far.values v) n) value.1 in
+        let value = value_stands ρ o n own_name offers (get_or w.values v None) (wanted-so-far.values v) (a.values.stands v small) in
+        let due-now = subterm_due (value_of (get_or w.values v None) o) (value_or (wanted-so-far.values v) n) value.1 in
         record {
           steps = counted;
           values = values_fixed ρ o n own_name offers w.values wanted-so-far.values a.values v small;
@@ -212,8 +213,8 @@ module _
         let small = ltb-true v variables h in
         let o = step_name next in
         let n = number (suc wanted-so-far.steps) in
-        let value = value_stands ρ o n own_name offers (get_or w.values v 0) (wanted-so-far.values v) (a.values.stands v small) in
-        let due-now = subterm_due (value_of (get_or w.values v 0) o) (value_or (wanted-so-far.values v) n) value.1 in
+        let value = value_stands ρ o n own_name offers (get_or w.values v None) (wanted-so-far.values v) (a.values.stands v small) in
+        let due-now = subterm_due (value_of (get_or w.values v None) o) (value_or (wanted-so-far.values v) n) value.1 in
         record {
           steps = counted;
           values = values_fixed ρ o n own_name offers w.values wanted-so-far.values a.values v small;

@@ -1,13 +1,14 @@
 -- The run on names stands for the machine's run and for what is wanted: under every choice each holds the values of the names.
-use Rattle.std.specs.Prelude.{ℕ, suc, ◌+◌, ◌*◌, ◌≤◌, ◌<◌, ◌≡◌, refl, true, eqb, get_or}
+use Rattle.std.specs.Prelude.{ℕ, suc, ◌+◌, ◌*◌, ◌≤◌, ◌<◌, ◌≡◌, refl, true, false, not, get_or, Option, None}
 use Rattle.std.proofs.Common.{sym, ap, subst, ◌∙◌, arith}
 use mathlib.Core.List.{List, [], ◌∷◌, map}
 use Rattle.std.proofs.Math.ListN.{length-replicate, get_or-replicate}
-use borrow.Author.Tests.{eqb-true}
+use Rattle.std.proofs.lemmas.Bool.{false≢true, not-true}
 use Rattle.notation.specs.ChoiceLaws.{both_true}
 use Rattle.notation.specs.Lists.{numbers_from}
 use Rattle.notation.specs.ListLaws.{length_numbers, get_or_numbers}
-use Rattle.refusals.specs.Refusals.{accepted}
+use Rattle.refusals.specs.Refusals.{accepted, is_refused}
+use Rattle.refusals.specs.RefusalsLaws.{not_refused}
 use Rattle.sizes.specs.Sizes.{variables, steps, instructions, is_register}
 use Rattle.sizes.specs.SizesLaws.{register_exactly}
 use Rattle.registers.specs.declared.RegType.{RegType}
@@ -19,15 +20,16 @@ use Rattle.steps.specs.declared.CheckLine.{CheckLine}
 use Rattle.steps.specs.declared.CheckLine.TheVariants.{Begins, Does}
 use Rattle.steps.specs.declared.Order.{Order}
 use Rattle.steps.specs.Steps.{is_get_value_or_unify, fits}
-use Rattle.steps.specs.Order.{head_step, kind_of, fresh_order, begun, done, following, judged}
+use Rattle.steps.specs.Order.{kind_of, is_past_head, fresh_order, begun, done, following, judged}
 use Rattle.steps.specs.OrderLaws.{line-fits, accepted_order, begins_few, does_few, head_goes_on, demands_in_head, argument_and_variable_lem}
-use Rattle.classes.specs.Classes.{pairs_of, in_names}
+use Rattle.classes.specs.Classes.{in_names}
 use Rattle.machine.specs.Machine.{Contents, Machine, begins, does, stepped, run_from, at_entry, run}
 use Rattle.machine.specs.Machine.{carried as machine_carried}
 use Rattle.machine.specs.Wanted.{Wanted, wants, wanted_by, wanted_from, nothing_wanted}
 use Rattle.machine.specs.Wanted.{wanted as wanted_of}
 use Rattle.symbolic.specs.Names.{place_name, step_name, place_cells, call_name, no_name, pair_cells}
-use Rattle.symbolic.specs.Symbolic.{listed, doing, spoilt_at, Symbols, wanted, claimed_at, carried, no_pairs, fresh_symbols, all_accepted, carried_all}
+use Rattle.symbolic.specs.declared.Symbols.{Symbols}
+use Rattle.symbolic.specs.Symbolic.{listed, doing, spoilt_at, wanted, claimed_at, carried, no_pairs, fresh_symbols, all_accepted, carried_all}
 use Rattle.on_names.specs.OnNames.{both, named, first, second, symbols_of}
 use Rattle.on_names.proofs.ChoiceLaws.{Agrees, values_agree}
 use Rattle.on_names.proofs.PairsLaws.{Table, table_more, table-fresh}
@@ -46,7 +48,7 @@ pub record Standing (ρ : ℕ → ℕ) (order : Order) (s : Symbols) (m : Machin
   pub short : order.instructions ≤ instructions
   pub acts : Acts ρ order.steps (most_done order) (most_done order) s.doing m
   -- equalities are demanded in the head alone, where no call has left anything
-  pub labelled : order.kind ≤ head_step → AllLabelled s.doing.places
+  pub labelled : is_past_head order.kind ≡ false → AllLabelled s.doing.places
   pub asks : Asks ρ order.steps s.wanting w
   pub reads : Reads ρ order.steps s.wanting.goal s.claims m.goal w.goal m.read w.arguments
 
@@ -88,13 +90,13 @@ module _
         }
 
     labelled_begun :
-        (step : Step) → (judged order (Begins step)).refusal ≡ accepted → kind_of step ≤ head_step
+        (step : Step) → (judged order (Begins step)).refusal ≡ accepted → is_past_head (kind_of step) ≡ false
         → AllLabelled (spoilt_at (order.steps + 1) s.doing.places step)
     labelled_begun (Head k v) good e = h.labelled (head_goes_on order (Head k v) good refl)
     labelled_begun (HeadDeep v) good e = h.labelled (head_goes_on order (HeadDeep v) good refl)
-    labelled_begun (Goal k v) good e = absurd (omega arith)
-    labelled_begun (GoalDeep v) good e = absurd (omega arith)
-    labelled_begun Call good e = absurd (omega arith)
+    labelled_begun (Goal k v) good e = absurd (false≢true (sym e))
+    labelled_begun (GoalDeep v) good e = absurd (false≢true (sym e))
+    labelled_begun Call good e = absurd (false≢true (sym e))
 
     module _ (bounded : order.steps + 1 ≤ steps) where
       leaves : (r : ℕ) → is_register r ≡ true → left_by (suc m.steps) r ≡ ρ (call_name (order.steps + 1) r)
@@ -137,7 +139,7 @@ module _
           let low : o < no_name = omega arith in
           let n = number (suc w.steps) in
           let same = offers agrees order.steps (order.steps + 1) next bounded s.wanting w h.asks in
-          let value = value_stands ρ o n low same (get_or s.wanting.values v 0) (w.values v) (h.asks.values.stands v a.2) in
+          let value = value_stands ρ o n low same (get_or s.wanting.values v None) (w.values v) (h.asks.values.stands v a.2) in
           reads_argument ρ _ _ next bounded _ _ _ _ _ _ h.reads k _ _ e value.1
       reads_step (GoalDeep v) f = reads_same ρ _ _ next bounded _ _ _ _ _ _ h.reads
       reads_step Call f = reads_call ρ _ _ next bounded _ _ _ _ _ _ h.reads s.doing.places m.contents h.acts.places
@@ -182,9 +184,9 @@ module _
     line_does instruction good =
         let under = does_few order instruction good in
         let fit = line-fits order (Does instruction) good in
-        let room : 2 * most_done order + 2 ≤ pair_cells = omega (arith, h.few) in
+        let room : most_done order < pair_cells = omega (arith, h.few) in
         let in_head : is_get_value_or_unify instruction ≡ true → AllLabelled s.doing.places =
-        λ demands. h.labelled (omega (arith, demands_in_head order instruction good demands)) in
+        λ demands. h.labelled (ap is_past_head (demands_in_head order instruction good demands)) in
         let acts-now = does_stands ρ order.steps (most_done order) s.doing m h.acts h.few room instruction fit in_head in
         rw own-number
         record {
@@ -235,8 +237,8 @@ module _ {ρ : ℕ → ℕ} {entry : Contents} {number : ℕ → ℕ} {left_by :
   unfolding all_accepted carried_all run_from wanted_from
   lines_stand order s m w [] e h = (order, h)
   lines_stand order s m w (line ∷ lines) e h =
-      let b = both_true (eqb (judged order line).refusal accepted) (all_accepted (judged order line).order lines) e in
-      let good = eqb-true (judged order line).refusal accepted b.0 in
+      let b = both_true (not (is_refused (judged order line).refusal)) (all_accepted (judged order line).order lines) e in
+      let good = not_refused (judged order line).refusal (not-true _ b.0) in
       lines_stand (judged order line).order _ _ _ lines b.1 (line_stands order s m w line good h)
 
 -- ---- Before the first line
@@ -249,7 +251,7 @@ fresh_labelled : AllLabelled (numbers_from 0 place_cells)
 fresh_labelled place h = omega (arith, held-fresh place (place_name_lem place h), place_name_lem place h)
 
 none-listed : {A : Type 0} (f : ℕ × ℕ → A) → ◌≡◌ {A = List A} [] (map f (listed no_pairs))
-unfolding listed pairs_of
+unfolding listed
 none-listed f = refl
 
 module _ {ρ : ℕ → ℕ} {entry : Contents} {number : ℕ → ℕ} {left_by : ℕ → ℕ → ℕ} (agrees : Agrees ρ entry number left_by) where
@@ -261,7 +263,7 @@ module _ {ρ : ℕ → ℕ} {entry : Contents} {number : ℕ → ℕ} {left_by :
       }
 
   fresh_stands : Standing ρ fresh_order fresh_symbols (at_entry entry) nothing_wanted
-  unfolding listed pairs_of in_names
+  unfolding listed in_names
   fresh_stands =
       record {
         few = omega arith;
@@ -280,7 +282,7 @@ module _ {ρ : ℕ → ℕ} {entry : Contents} {number : ℕ → ℕ} {left_by :
         asks =
             record {
               steps = refl;
-              values = record { size = length-replicate {A = ℕ} variables no_name; stands = λ v h. get_or-replicate {A = ℕ} variables v no_name 0 h };
+              values = record { size = length-replicate {A = Option ℕ} variables None; stands = λ v h. get_or-replicate {A = Option ℕ} variables v None None h };
               wants = table-fresh;
               wants_labelled = refl;
               due = table-fresh;

@@ -3,7 +3,8 @@ use Rattle.std.specs.Prelude.{ℕ, ◌≡◌, ◌↔◌, List, map}
 use Rattle.classes.specs.Forces.{Holds}
 use Rattle.steps.specs.declared.CheckLine.{CheckLine}
 use Rattle.steps.specs.Order.{fresh_order}
-use Rattle.symbolic.specs.Symbolic.{Symbols, listed, fresh_symbols, carried_all}
+use Rattle.symbolic.specs.declared.Symbols.{Symbols}
+use Rattle.symbolic.specs.Symbolic.{listed, fresh_symbols, carried_all}
 
 -- a sheet's run on names
 abbrev pub symbols_of : List CheckLine → Symbols

@@ -1,9 +1,11 @@
 // Marks of what is no ordinary occurrence of a variable: an anonymous variable, a term that is no variable, and the variable
 // that a cut needs.
+//
+// Each function is lent the tables that it looks at and no others, so that its signature says what it leaves alone.
 #![tactic(auto)]
 
 ghost use Rattle.std.specs.Prelude.{◌≡◌};
-ghost use Rattle.evacuation.specs.Evacuation.{sets, evacuation};
+ghost use Rattle.evacuation.specs.Evacuation.{evacuation};
 ghost use Rattle.other_marks.specs.OtherMarks.{
   refused_mark,
   quiet_mark,
@@ -28,22 +30,21 @@ ghost use Rattle.other_marks.specs.OtherMarks.{
 
 use allocation::TempFreeList;
 use allocator_state::Counters;
-use choice::Chosen;
 use code_deque::CodeDeque;
 use evacuation::Reached;
 use forms::{GenContext, Level};
 use instructions::Instruction;
 use marks::Marked;
 use perm_free_list::PermFreeList;
-use register_sets::RegisterSets;
+use refusals::Refusal;
 use registers::RegType;
+use restricting_sets::VariableSets;
 use shallow_temp_mappings::Mappings;
 use targets::Target;
-use temp_var_data::{UseCounts, UseSets};
 use variable_records::{Records, VarAlloc, VarSafetyStatus, VariableRecord};
 
 // A mark that is refused before it has made an instruction.
-fn refused(counters: Counters, refusal: u32) -> Marked
+fn refused(counters: Counters, refusal: Option<Refusal>) -> Marked
     ensures { result ≡ refused_mark counters refusal }
 {
     Marked {
@@ -71,25 +72,18 @@ fn empty_in_last_goal(
     counters: Counters,
     records: &mut Records,
     mappings: &mut Mappings,
-    use_sets: &UseSets,
-    use_counts: &UseCounts,
-    no_use: &RegisterSets,
-    conflict: &RegisterSets,
+    sets: &VariableSets,
     context: GenContext,
 ) -> Reached
-    ensures { evacuation records.new mappings.new result ≡ emptied_in context counters records.old mappings.old (sets use_sets.now use_counts.now no_use.now conflict.now) }
+    ensures { evacuation records.new mappings.new result ≡ emptied_in context counters records.old mappings.old sets.now }
 {
     match context {
-        GenContext::Head => evacuation::going(counters, CodeDeque::Empty),
-        GenContext::Mid(_) => evacuation::going(counters, CodeDeque::Empty),
+        GenContext::Head | GenContext::Mid(_) => evacuation::going(counters, CodeDeque::Empty),
         GenContext::Last(chunk) => evacuation::evacuate_arg(
             counters,
             records,
             mappings,
-            use_sets,
-            use_counts,
-            no_use,
-            conflict,
+            sets,
             chunk,
             CodeDeque::Empty,
         ),
@@ -101,18 +95,13 @@ fn take_turn(
     counters: Counters,
     records: &mut Records,
     mappings: &mut Mappings,
-    use_sets: &UseSets,
-    use_counts: &UseCounts,
-    no_use: &RegisterSets,
-    conflict: &RegisterSets,
+    sets: &VariableSets,
     context: GenContext,
 ) -> Reached
-    ensures { evacuation records.new mappings.new result ≡ turn_taken counters records.old mappings.old (sets use_sets.now use_counts.now no_use.now conflict.now) context }
+    ensures { evacuation records.new mappings.new result ≡ turn_taken counters records.old mappings.old sets.now context }
 {
-    let emptied = empty_in_last_goal(
-        counters, records, mappings, use_sets, use_counts, no_use, conflict, context,
-    );
-    if 0 < emptied.refusal {
+    let emptied = empty_in_last_goal(counters, records, mappings, sets, context);
+    if emptied.refusal.is_some() {
         return emptied;
     }
     let code = emptied.code;
@@ -125,7 +114,7 @@ fn take_turn(
 fn marked_at(reached: Reached, place: RegType) -> Marked
     ensures { result ≡ marked_at reached place }
 {
-    if 0 < reached.refusal {
+    if reached.refusal.is_some() {
         return Marked {
             reached,
             place: RegType::Temp(0),
@@ -138,7 +127,7 @@ fn marked_at(reached: Reached, place: RegType) -> Marked
 fn instructed_at(reached: Reached, instruction: Instruction, place: RegType) -> Marked
     ensures { result ≡ instructed_at reached instruction place }
 {
-    if 0 < reached.refusal {
+    if reached.refusal.is_some() {
         return Marked {
             reached,
             place: RegType::Temp(0),
@@ -157,20 +146,15 @@ fn put_anon_argument(
     counters: Counters,
     records: &mut Records,
     mappings: &mut Mappings,
-    use_sets: &UseSets,
-    use_counts: &UseCounts,
-    no_use: &RegisterSets,
-    conflict: &RegisterSets,
+    sets: &VariableSets,
     target: Target,
     context: GenContext,
     place: RegType,
 ) -> Marked
-    ensures { mark_of records.new mappings.new result ≡ anon_argument counters records.old mappings.old (sets use_sets.now use_counts.now no_use.now conflict.now) target context place }
+    ensures { mark_of records.new mappings.new result ≡ anon_argument counters records.old mappings.old sets.now target context place }
 {
     let k = counters.arg_c;
-    let turn = take_turn(
-        counters, records, mappings, use_sets, use_counts, no_use, conflict, context,
-    );
+    let turn = take_turn(counters, records, mappings, sets, context);
     instructed_at(turn, targets::argument_to_variable(target, place, k), place)
 }
 
@@ -178,11 +162,7 @@ fn put_anon_argument(
 fn is_argument(level: Level) -> bool
     ensures { result ≡ is_argument level }
 {
-    match level {
-        Level::Root => true,
-        Level::Shallow => true,
-        Level::Deep => false,
-    }
+    matches!(level, Level::Root | Level::Shallow)
 }
 
 // An anonymous variable in a register of its own, as an argument or as a subterm.
@@ -190,22 +170,16 @@ fn put_anon(
     counters: Counters,
     records: &mut Records,
     mappings: &mut Mappings,
-    use_sets: &UseSets,
-    use_counts: &UseCounts,
-    no_use: &RegisterSets,
-    conflict: &RegisterSets,
+    sets: &VariableSets,
     target: Target,
     level: Level,
     context: GenContext,
     place: RegType,
 ) -> Marked
-    ensures { mark_of records.new mappings.new result ≡ anon_placed counters records.old mappings.old (sets use_sets.now use_counts.now no_use.now conflict.now) target level context place }
+    ensures { mark_of records.new mappings.new result ≡ anon_placed counters records.old mappings.old sets.now target level context place }
 {
     if is_argument(level) {
-        return put_anon_argument(
-            counters, records, mappings, use_sets, use_counts, no_use, conflict, target, context,
-            place,
-        );
+        return put_anon_argument(counters, records, mappings, sets, target, context, place);
     }
     let instruction = targets::subterm_to_variable(target, place);
     instructed_at(
@@ -220,30 +194,23 @@ pub fn mark_anon_var(
     counters: Counters,
     records: &mut Records,
     mappings: &mut Mappings,
-    use_sets: &UseSets,
-    use_counts: &UseCounts,
-    no_use: &RegisterSets,
-    conflict: &RegisterSets,
+    sets: &VariableSets,
     list: &TempFreeList,
     target: Target,
     level: Level,
     context: GenContext,
 ) -> Marked
-    ensures { mark_of records.new mappings.new result ≡ anon_marked counters records.old mappings.old (sets use_sets.now use_counts.now no_use.now conflict.now) list.now target level context }
+    ensures { mark_of records.new mappings.new result ≡ anon_marked counters records.old mappings.old sets.now list.now target level context }
 {
     let given = allocation::alloc_reg_to_non_var(counters, list);
     let taken = given.counters;
-    let chosen = given.chosen;
-    match chosen {
-        Chosen::NoRegister => refused(taken, refusals::REGISTER),
-        Chosen::Register(r) => put_anon(
+    match given.chosen {
+        None => refused(taken, Some(Refusal::Register)),
+        Some(r) => put_anon(
             taken,
             records,
             mappings,
-            use_sets,
-            use_counts,
-            no_use,
-            conflict,
+            sets,
             target,
             level,
             context,
@@ -258,10 +225,9 @@ fn mark_term(counters: Counters, list: &TempFreeList) -> Marked
 {
     let given = allocation::alloc_reg_to_non_var(counters, list);
     let taken = given.counters;
-    let chosen = given.chosen;
-    match chosen {
-        Chosen::NoRegister => refused(taken, refusals::REGISTER),
-        Chosen::Register(r) => quiet(taken, RegType::Temp(r)),
+    match given.chosen {
+        None => refused(taken, Some(Refusal::Register)),
+        Some(r) => quiet(taken, RegType::Temp(r)),
     }
 }
 
@@ -272,8 +238,10 @@ fn mark_cell(counters: Counters, list: &TempFreeList, cell: u32) -> Marked
     if cell == 0 {
         return mark_term(counters, list);
     }
-    let mut used = counters;
-    used.in_use = bit_set::insert(counters.in_use, cell);
+    let used = Counters {
+        in_use: bit_set::insert(counters.in_use, cell),
+        ..counters
+    };
     quiet(used, RegType::Temp(cell))
 }
 
@@ -282,18 +250,13 @@ fn put_non_var_argument(
     counters: Counters,
     records: &mut Records,
     mappings: &mut Mappings,
-    use_sets: &UseSets,
-    use_counts: &UseCounts,
-    no_use: &RegisterSets,
-    conflict: &RegisterSets,
+    sets: &VariableSets,
     context: GenContext,
 ) -> Marked
-    ensures { mark_of records.new mappings.new result ≡ non_var_argument counters records.old mappings.old (sets use_sets.now use_counts.now no_use.now conflict.now) context }
+    ensures { mark_of records.new mappings.new result ≡ non_var_argument counters records.old mappings.old sets.now context }
 {
     let k = counters.arg_c;
-    let turn = take_turn(
-        counters, records, mappings, use_sets, use_counts, no_use, conflict, context,
-    );
+    let turn = take_turn(counters, records, mappings, sets, context);
     marked_at(turn, RegType::Temp(k))
 }
 
@@ -302,23 +265,17 @@ pub fn mark_non_var(
     counters: Counters,
     records: &mut Records,
     mappings: &mut Mappings,
-    use_sets: &UseSets,
-    use_counts: &UseCounts,
-    no_use: &RegisterSets,
-    conflict: &RegisterSets,
+    sets: &VariableSets,
     list: &TempFreeList,
     level: Level,
     context: GenContext,
     cell: u32,
 ) -> Marked
-    ensures { mark_of records.new mappings.new result ≡ non_var_marked counters records.old mappings.old (sets use_sets.now use_counts.now no_use.now conflict.now) list.now level context cell }
+    ensures { mark_of records.new mappings.new result ≡ non_var_marked counters records.old mappings.old sets.now list.now level context cell }
 {
     match level {
-        Level::Root => mark_cell(counters, list, cell),
-        Level::Deep => mark_cell(counters, list, cell),
-        Level::Shallow => put_non_var_argument(
-            counters, records, mappings, use_sets, use_counts, no_use, conflict, context,
-        ),
+        Level::Root | Level::Deep => mark_cell(counters, list, cell),
+        Level::Shallow => put_non_var_argument(counters, records, mappings, sets, context),
     }
 }
 
@@ -334,7 +291,7 @@ fn cut_slot(
 {
     let placed = allocation::alloc_perm_var(counters, records, perm_list, v, chunk);
     let after = placed.counters;
-    if 0 < placed.refusal {
+    if placed.refusal.is_some() {
         return refused(after, placed.refusal);
     }
     quiet(after, RegType::Perm(placed.place))
@@ -354,10 +311,9 @@ fn cut_register(
 {
     let given = allocation::alloc_reg_to_non_var(counters, list);
     let taken = given.counters;
-    let chosen = given.chosen;
-    match chosen {
-        Chosen::NoRegister => refused(taken, refusals::REGISTER),
-        Chosen::Register(r) => {
+    match given.chosen {
+        None => refused(taken, Some(Refusal::Register)),
+        Some(r) => {
             let safe = VarAlloc::Temp {
                 term_loc,
                 temp_reg: r,
@@ -393,8 +349,8 @@ pub fn mark_cut_var(
         VarAlloc::Temp {
             term_loc,
             temp_reg,
-            safety: _,
             to_perm_var_num,
+            ..
         } => {
             if temp_reg == 0 {
                 return cut_register(counters, records, list, v, found, term_loc, to_perm_var_num);

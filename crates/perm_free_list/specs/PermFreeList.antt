@@ -1,5 +1,6 @@
 -- The queue of freed slots: rules 10.1 and 10.2.
-use Rattle.std.specs.Prelude.{ℕ, zero, suc, ◌+◌, ◌*◌, ◌%◌, List, [], ◌∷◌, leb, ltb, get_or, set}
+use Rattle.std.specs.Prelude.{Option, Some, None, ℕ, zero, suc, ◌+◌, ◌*◌, ◌%◌, List, [], ◌∷◌, leb, ltb, get_or, set}
+use Rattle.std.specs.Bool.{then_some}
 use Rattle.std.specs.Prelude.{if◌then◌else◌}
 use Rattle.sizes.specs.Sizes.{freed_slots}
 use Rattle.variable_records.specs.declared.VarAlloc.{VarAlloc}
@@ -24,13 +25,13 @@ entry_at list first i =
 abbrev pub entry_put : List ℕ → ℕ → ℕ → FreedSlot → List ℕ
 entry_put list first i entry = set (set list (entry_start first i) entry.chunk) (entry_start first i + 1) entry.variable
 
--- the slot of a variable that is Pending; 0, which is none, of any other
-abbrev pub pending_slot : VarAlloc → ℕ
-pending_slot (Temp context register safety to_perm) = 0
-pending_slot (Perm slot (Done shallow deep)) = 0
-pending_slot (Perm slot Pending) = slot
+-- the slot of a variable that is Pending, where it has one; none of any other
+abbrev pub pending_slot : VarAlloc → Option ℕ
+pending_slot (Temp context register safety to_perm) = None
+pending_slot (Perm slot (Done shallow deep)) = None
+pending_slot (Perm slot Pending) = then_some (ltb 0 slot) slot
 
-unfoldable pub free_slot : List ℕ → ℕ → ℕ
+unfoldable pub free_slot : List ℕ → ℕ → Option ℕ
 free_slot records v = pending_slot (record_at records v).allocation
 
 -- the queue: so many entries from the i-th on
@@ -40,13 +41,20 @@ entries list first i (suc count) = entry_at list first i ∷ entries list first 
 
 -- no slot is given, and so many entries are dropped
 abbrev pub none : ℕ → Looked
-none dropped = record { dropped = dropped; slot = 0; owner = 0 }
+none dropped = record { dropped = dropped; taken = None }
+
+-- a slot is given, its owner's, and so many entries are dropped
+abbrev pub gives : ℕ → ℕ → ℕ → Looked
+gives dropped slot owner = record { dropped = dropped; taken = Some (record { slot = slot; owner = owner }) }
+
+-- an owner's slot, which is the last of so many entries that are dropped, or else what the rest gives
+abbrev pub given_or : Option ℕ → ℕ → ℕ → Looked → Looked
+given_or (Some slot) dropped owner rest = gives dropped slot owner
+given_or None dropped owner rest = rest
 
 -- rules 10.1, 10.2: a front entry of this chunk or a later one ends it; an earlier one gives its slot, or is dropped
 unfoldable pub looked : List ℕ → ℕ → ℕ → List FreedSlot → Looked
 looked records chunk dropped [] = none dropped
 looked records chunk dropped (entry ∷ rest) =
     if leb chunk entry.chunk then none dropped
-    else if ltb 0 (free_slot records entry.variable) then
-    record { dropped = dropped + 1; slot = free_slot records entry.variable; owner = entry.variable }
-    else looked records chunk (dropped + 1) rest
+    else given_or (free_slot records entry.variable) (dropped + 1) entry.variable (looked records chunk (dropped + 1) rest)

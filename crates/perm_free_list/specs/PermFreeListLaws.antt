@@ -1,9 +1,9 @@
 -- Laws of the queue, an entry at a time.
-use Rattle.std.specs.Prelude.{ℕ, suc, ◌+◌, ◌-◌, ◌≤◌, ◌<◌, ◌≡◌, refl, List, [], ◌∷◌}
+use Rattle.std.specs.Prelude.{Some, None, ℕ, suc, ◌+◌, ◌-◌, ◌≤◌, ◌<◌, ◌≡◌, refl, List, [], ◌∷◌}
 use Rattle.std.proofs.Common.{ap, sym, ◌∙◌, arith, add-one}
-use borrow.Author.Tests.{le-leb, lt-leb, lt-ltb, le-ltb}
+use borrow.Author.Tests.{le-leb, lt-leb}
 use Rattle.perm_free_list.specs.declared.FreedSlot.{FreedSlot}
-use Rattle.perm_free_list.specs.PermFreeList.{entry_at, free_slot, entries, none, looked}
+use Rattle.perm_free_list.specs.PermFreeList.{entry_at, free_slot, entries, none, gives, looked}
 
 -- the queue from entry i on is that entry and the queue behind it
 pub entries_more :
@@ -32,17 +32,17 @@ module _ (records : List ℕ) (chunk i : ℕ) (entry : FreedSlot) (rest : List F
 
   -- the front's slot is taken
   pub looked-taken :
-      entry.chunk < chunk → (slot : ℕ) → slot ≡ free_slot records entry.variable → 0 < slot
-      → looked records chunk i (entry ∷ rest) ≡ record { dropped = i + 1; slot = slot; owner = entry.variable }
+      entry.chunk < chunk → (slot : ℕ) → free_slot records entry.variable ≡ Some slot
+      → looked records chunk i (entry ∷ rest) ≡ gives (i + 1) slot entry.variable
   unfolding looked
-  looked-taken l slot e p = simp (lt-leb _ _ l, ← e, lt-ltb _ _ p)
+  looked-taken l slot e = simp (lt-leb _ _ l, e)
 
   -- the front is dropped
   pub looked_dropped :
-      entry.chunk < chunk → (slot : ℕ) → slot ≡ free_slot records entry.variable → slot ≤ 0
+      entry.chunk < chunk → free_slot records entry.variable ≡ None
       → looked records chunk i (entry ∷ rest) ≡ looked records chunk (i + 1) rest
   unfolding looked
-  looked_dropped l slot e p = simp (lt-leb _ _ l, ← e, le-ltb _ _ p)
+  looked_dropped l e = simp (lt-leb _ _ l, e)
 
 pub looked-none : (records : List ℕ) (chunk i : ℕ) → looked records chunk i [] ≡ none i
 unfolding looked

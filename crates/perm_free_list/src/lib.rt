@@ -10,6 +10,7 @@ use variable_records::{PermVarAllocation, Records, VarAlloc};
 // Cells of an entry.
 pub const ENTRY_CELLS: usize = 2;
 
+// An array whose ends are counters, since a C host lends both.
 pub type PermFreeList = [u32; FREED_SLOTS * ENTRY_CELLS];
 
 // A chunk, and the variable whose slot was freed in it.
@@ -41,65 +42,55 @@ pub fn put_entry(list: &mut PermFreeList, first: u32, i: u32, entry: FreedSlot)
     list[at + 1] = entry.variable;
 }
 
-// The slot that a variable holds and does not need, that of a permanent variable that is Pending; 0 where there is none.
-pub fn free_slot(records: &Records, v: u32) -> u32
+// The slot that a variable holds and does not need: that of a permanent variable that is Pending.
+pub fn free_slot(records: &Records, v: u32) -> Option<u32>
     ensures { result ≡ free_slot records.now v }
 {
-    let variable = variable_records::load(records, v);
-    let allocation = variable.allocation;
-    match allocation {
-        VarAlloc::Temp {
-            term_loc: _,
-            temp_reg: _,
-            safety: _,
-            to_perm_var_num: _,
-        } => 0,
+    match variable_records::load(records, v).allocation {
+        VarAlloc::Temp { .. } => None,
         VarAlloc::Perm(slot, allocation) => match allocation {
-            PermVarAllocation::Pending => slot,
-            PermVarAllocation::Done {
-                shallow_safety: _,
-                deep_safety: _,
-            } => 0,
+            PermVarAllocation::Pending => (0 < slot).then_some(slot),
+            PermVarAllocation::Done { .. } => None,
         },
     }
 }
 
-// What a look at the queue finds: how many entries go, and the slot that is taken with its old owner, or 0 where none is.
+// A slot that is taken, and its old owner.
+#[derive(Clone, Copy)]
+pub struct Taken {
+    pub slot: u32,
+    pub owner: u32,
+}
+
+// What a look at the queue finds: how many entries go, and the slot that is taken, where one is.
 #[derive(Clone, Copy)]
 pub struct Looked {
     pub dropped: u32,
-    pub slot: u32,
-    pub owner: u32,
+    pub taken: Option<Taken>,
 }
 
 // Looks from the front for a slot that a later chunk may take.
 pub fn look(list: &PermFreeList, first: u32, count: u32, records: &Records, chunk: u32) -> Looked
     ensures { result ≡ looked records.now chunk 0 (entries list.now first 0 count) }
 {
-    let mut i = 0;
-    while i < count {
+    for i in 0..count {
         let entry = entry_at(list, first, i);
         if chunk <= entry.chunk {
             return Looked {
                 dropped: i,
-                slot: 0,
-                owner: 0,
+                taken: None,
             };
         }
         let owner = entry.variable;
-        let slot = free_slot(records, owner);
-        if 0 < slot {
+        if let Some(slot) = free_slot(records, owner) {
             return Looked {
                 dropped: i + 1,
-                slot,
-                owner,
+                taken: Some(Taken { slot, owner }),
             };
         }
-        i += 1;
     }
     Looked {
-        dropped: i,
-        slot: 0,
-        owner: 0,
+        dropped: count,
+        taken: None,
     }
 }

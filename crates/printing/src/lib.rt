@@ -2,6 +2,7 @@
 //
 // Each answers the place after what it put. Where the room ends, what fits is put, the rest is left out, and the answer
 // is one past the room: a place from which nothing more is put, so that a run of these says at its end whether all fit.
+// Functions and no Display, since there is no heap and no formatter that counts on past its room.
 #![tactic(auto)]
 
 ghost use Rattle.std.specs.Prelude.{[], ◌∷◌};
@@ -27,10 +28,8 @@ pub fn put_word(out: &mut [u8], at: usize, word: &[u8]) -> usize
         return out.len() + 1;
     }
     let mut next = at;
-    let mut i = 0;
-    while i < word.len() {
-        next = put_byte(out, next, word[i]);
-        i += 1;
+    for &byte in word {
+        next = put_byte(out, next, byte);
     }
     next
 }

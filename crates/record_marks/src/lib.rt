@@ -21,11 +21,11 @@ use registers::RegType;
 use targets::Target;
 use variable_records::{PermVarAllocation, VarAlloc, VarSafetyStatus, VariableRecord};
 
-// The record afterwards with the instruction, or that the original stops here.
+// A record afterwards, and the instruction that hands its variable on.
 #[derive(Clone, Copy)]
-pub enum Valued {
-    Value(VariableRecord, Instruction),
-    Stopped,
+pub struct Valued {
+    pub variable: VariableRecord,
+    pub instruction: Instruction,
 }
 
 // Whether an argument needs no guard: not in the tail position, or not in this branch.
@@ -38,7 +38,8 @@ fn argument_safe(in_tail_position: u32, safety: VarSafetyStatus, branch: Branch)
     variable_records::safety_unneeded_in_branch(safety, branch)
 }
 
-// An argument whose variable has been met before.
+// An argument whose variable has been met before; none where the original stops.
+#[tactic(auto, unfolding(crate::specs::RecordMarks::argument_value_of))]
 pub fn argument_to_value(
     variable: VariableRecord,
     target: Target,
@@ -46,96 +47,93 @@ pub fn argument_to_value(
     k: u32,
     in_tail_position: u32,
     branch: Branch,
-) -> Valued
+) -> Option<Valued>
     ensures { result ≡ argument_value variable target place k in_tail_position branch }
 {
-    let allocation = variable.allocation;
-    match allocation {
-        VarAlloc::Temp {
-            term_loc: _,
-            temp_reg: _,
-            safety: _,
-            to_perm_var_num: _,
-        } => Valued::Value(variable, targets::argument_to_value(target, place, k)),
-        VarAlloc::Perm(slot, perm) => match perm {
-            PermVarAllocation::Pending => Valued::Stopped,
+    match variable.allocation {
+        VarAlloc::Temp { .. } => Some(Valued {
+            variable,
+            instruction: targets::argument_to_value(target, place, k),
+        }),
+        VarAlloc::Perm(_, PermVarAllocation::Pending) => None,
+        VarAlloc::Perm(
+            slot,
             PermVarAllocation::Done {
                 shallow_safety,
                 deep_safety,
-            } => {
-                if argument_safe(in_tail_position, shallow_safety, branch) {
-                    return Valued::Value(variable, targets::argument_to_value(target, place, k));
-                }
-                let guarded = variable_records::unneeded(branch);
-                Valued::Value(
-                    variable.allocated(VarAlloc::Perm(
-                        slot,
-                        PermVarAllocation::Done {
-                            shallow_safety: guarded,
-                            deep_safety,
-                        },
-                    )),
-                    targets::unsafe_argument_to_value(target, place, k),
-                )
+            },
+        ) => {
+            if argument_safe(in_tail_position, shallow_safety, branch) {
+                return Some(Valued {
+                    variable,
+                    instruction: targets::argument_to_value(target, place, k),
+                });
             }
-        },
+            let guarded = PermVarAllocation::Done {
+                shallow_safety: variable_records::unneeded(branch),
+                deep_safety,
+            };
+            Some(Valued {
+                variable: variable.allocated(VarAlloc::Perm(slot, guarded)),
+                instruction: targets::unsafe_argument_to_value(target, place, k),
+            })
+        }
     }
 }
 
-// A subterm whose variable has been met before.
+// A subterm whose variable has been met before; none where the original stops.
+#[tactic(auto, unfolding(crate::specs::RecordMarks::subterm_value_of))]
 pub fn subterm_to_value(
     variable: VariableRecord,
     target: Target,
     place: RegType,
     branch: Branch,
-) -> Valued
+) -> Option<Valued>
     ensures { result ≡ subterm_value variable target place branch }
 {
-    let allocation = variable.allocation;
-    match allocation {
+    let (safety, guarded) = match variable.allocation {
         VarAlloc::Temp {
             term_loc,
             temp_reg,
             safety,
             to_perm_var_num,
-        } => {
-            if variable_records::safety_unneeded_in_branch(safety, branch) {
-                return Valued::Value(variable, targets::subterm_to_value(target, place));
-            }
-            let guarded = variable_records::unneeded(branch);
-            Valued::Value(
-                variable.allocated(VarAlloc::Temp {
-                    term_loc,
-                    temp_reg,
-                    safety: guarded,
-                    to_perm_var_num,
-                }),
-                targets::unsafe_subterm_to_value(target, place),
-            )
-        }
-        VarAlloc::Perm(slot, perm) => match perm {
-            PermVarAllocation::Pending => Valued::Stopped,
+        } => (
+            safety,
+            VarAlloc::Temp {
+                term_loc,
+                temp_reg,
+                safety: variable_records::unneeded(branch),
+                to_perm_var_num,
+            },
+        ),
+        VarAlloc::Perm(_, PermVarAllocation::Pending) => return None,
+        VarAlloc::Perm(
+            slot,
             PermVarAllocation::Done {
                 shallow_safety,
                 deep_safety,
-            } => {
-                if variable_records::safety_unneeded_in_branch(deep_safety, branch) {
-                    return Valued::Value(variable, targets::subterm_to_value(target, place));
-                }
-                let guarded = variable_records::unneeded(branch);
-                Valued::Value(
-                    variable.allocated(VarAlloc::Perm(
-                        slot,
-                        PermVarAllocation::Done {
-                            shallow_safety,
-                            deep_safety: guarded,
-                        },
-                    )),
-                    targets::unsafe_subterm_to_value(target, place),
-                )
-            }
-        },
+            },
+        ) => (
+            deep_safety,
+            VarAlloc::Perm(
+                slot,
+                PermVarAllocation::Done {
+                    shallow_safety,
+                    deep_safety: variable_records::unneeded(branch),
+                },
+            ),
+        ),
+    };
+    if variable_records::safety_unneeded_in_branch(safety, branch) {
+        return Some(Valued {
+            variable,
+            instruction: targets::subterm_to_value(target, place),
+        });
     }
+    Some(Valued {
+        variable: variable.allocated(guarded),
+        instruction: targets::unsafe_subterm_to_value(target, place),
+    })
 }
 
 // What becomes of a variable that is met for the first time.
@@ -145,7 +143,6 @@ pub enum MarkedSafe {
     Safe(VariableRecord),
     // It takes its value from the temporary in the argument's register, which remembers it.
     FromTemporary,
-    Stopped,
 }
 
 // A permanent variable's record, safe as an argument and as a subterm as far as that branch goes.
@@ -162,38 +159,33 @@ fn safe_in(variable: VariableRecord, slot: u32, branch: Branch) -> VariableRecor
     ))
 }
 
-// A variable that is met for the first time, at a level and in a context.
+// A variable that is met for the first time, at a level and in a context; none where the original stops.
 pub fn mark_safe_var(
     variable: VariableRecord,
     level: Level,
     context: GenContext,
     branch: Branch,
-) -> MarkedSafe
+) -> Option<MarkedSafe>
     ensures { result ≡ marked_safe variable level context branch }
 {
-    let allocation = variable.allocation;
-    match allocation {
+    match variable.allocation {
         VarAlloc::Temp {
             term_loc,
             temp_reg,
-            safety: _,
             to_perm_var_num,
-        } => MarkedSafe::Safe(variable.allocated(VarAlloc::Temp {
+            ..
+        } => Some(MarkedSafe::Safe(variable.allocated(VarAlloc::Temp {
             term_loc,
             temp_reg,
             safety: VarSafetyStatus::GloballyUnneeded,
             to_perm_var_num,
-        })),
-        VarAlloc::Perm(slot, perm) => match perm {
-            PermVarAllocation::Pending => MarkedSafe::Stopped,
-            PermVarAllocation::Done {
-                shallow_safety: _,
-                deep_safety,
-            } => match level {
-                Level::Deep => MarkedSafe::Safe(safe_in(variable, slot, branch)),
-                Level::Root => safe_argument(variable, slot, deep_safety, context),
-                Level::Shallow => safe_argument(variable, slot, deep_safety, context),
-            },
+        }))),
+        VarAlloc::Perm(_, PermVarAllocation::Pending) => None,
+        VarAlloc::Perm(slot, PermVarAllocation::Done { deep_safety, .. }) => match level {
+            Level::Deep => Some(MarkedSafe::Safe(safe_in(variable, slot, branch))),
+            Level::Root | Level::Shallow => {
+                Some(safe_argument(variable, slot, deep_safety, context))
+            }
         },
     }
 }
@@ -215,38 +207,33 @@ fn safe_argument(
                 deep_safety: deep,
             },
         ))),
-        GenContext::Mid(_) => MarkedSafe::FromTemporary,
-        GenContext::Last(_) => MarkedSafe::FromTemporary,
+        GenContext::Mid(_) | GenContext::Last(_) => MarkedSafe::FromTemporary,
     }
 }
 
-// A variable that is said to be safe from here on.
-pub fn mark_safe_var_unconditionally(variable: VariableRecord, branch: Branch) -> MarkedSafe
+// The record of a variable that is said to be safe from here on; none where the original stops.
+pub fn mark_safe_var_unconditionally(
+    variable: VariableRecord,
+    branch: Branch,
+) -> Option<VariableRecord>
     ensures { result ≡ marked_unconditionally variable branch }
 {
-    let allocation = variable.allocation;
-    match allocation {
+    match variable.allocation {
         VarAlloc::Temp {
             term_loc,
             temp_reg,
-            safety: _,
             to_perm_var_num,
-        } => {
-            let safe = variable_records::unneeded(branch);
-            MarkedSafe::Safe(variable.allocated(VarAlloc::Temp {
-                term_loc,
-                temp_reg,
-                safety: safe,
-                to_perm_var_num,
-            }))
+            ..
+        } => Some(variable.allocated(VarAlloc::Temp {
+            term_loc,
+            temp_reg,
+            safety: variable_records::unneeded(branch),
+            to_perm_var_num,
+        })),
+        VarAlloc::Perm(_, PermVarAllocation::Pending) => None,
+        VarAlloc::Perm(slot, PermVarAllocation::Done { .. }) => {
+            Some(safe_in(variable, slot, branch))
         }
-        VarAlloc::Perm(slot, perm) => match perm {
-            PermVarAllocation::Pending => MarkedSafe::Stopped,
-            PermVarAllocation::Done {
-                shallow_safety: _,
-                deep_safety: _,
-            } => MarkedSafe::Safe(safe_in(variable, slot, branch)),
-        },
     }
 }
 
@@ -254,15 +241,9 @@ pub fn mark_safe_var_unconditionally(variable: VariableRecord, branch: Branch) -
 fn stored_in_place(variable: VariableRecord, r: u32, k: u32) -> bool
     ensures { result ≡ stored_in_place variable.allocation r k }
 {
-    let allocation = variable.allocation;
-    match allocation {
-        VarAlloc::Temp {
-            term_loc: _,
-            temp_reg,
-            safety: _,
-            to_perm_var_num: _,
-        } => r == k && temp_reg == k,
-        VarAlloc::Perm(_, _) => false,
+    match variable.allocation {
+        VarAlloc::Temp { temp_reg, .. } => r == k && temp_reg == k,
+        VarAlloc::Perm(..) => false,
     }
 }
 
@@ -275,29 +256,27 @@ pub fn in_place(variable: VariableRecord, context: GenContext, place: RegType, k
         RegType::Perm(r) => stored_in_place(variable, r, k),
         RegType::Temp(r) => match context {
             GenContext::Head => r == k,
-            GenContext::Mid(_) => stored_in_place(variable, r, k),
-            GenContext::Last(_) => stored_in_place(variable, r, k),
+            GenContext::Mid(_) | GenContext::Last(_) => stored_in_place(variable, r, k),
         },
     }
 }
 
-// A temporary remembers the permanent variable that it is moved to; the original stops at any other variable.
-pub fn remember_perm(variable: VariableRecord, v: u32) -> MarkedSafe
+// A temporary remembers the permanent variable that it is moved to; at any other variable the original stops.
+pub fn remember_perm(variable: VariableRecord, v: u32) -> Option<VariableRecord>
     ensures { result ≡ remembered_perm variable v }
 {
-    let allocation = variable.allocation;
-    match allocation {
+    match variable.allocation {
         VarAlloc::Temp {
             term_loc,
             temp_reg,
             safety,
-            to_perm_var_num: _,
-        } => MarkedSafe::Safe(variable.allocated(VarAlloc::Temp {
+            ..
+        } => Some(variable.allocated(VarAlloc::Temp {
             term_loc,
             temp_reg,
             safety,
             to_perm_var_num: v,
         })),
-        VarAlloc::Perm(_, _) => MarkedSafe::Stopped,
+        VarAlloc::Perm(..) => None,
     }
 }

@@ -1,9 +1,10 @@
 -- What a variable's mark can be given in a valid state: rules 4.4 to 4.7.
-use Rattle.std.specs.Prelude.{ℕ, ◌*◌, ◌≤◌, ◌<◌, ◌≡◌, Bool, List, eqb, leb, ltb, length}
-use Rattle.std.proofs.Common.{◌∙◌, arith, ltb-false}
+use Rattle.std.specs.Prelude.{Option, Some, None, ℕ, ◌*◌, ◌≤◌, ◌<◌, ◌≡◌, Bool, List, eqb, leb, ltb, length, Result, ⊤}
+use Rattle.std.proofs.Common.{◌∙◌, arith, true≢false}
 use Rattle.std.proofs.Math.Bool.{true, false}
 use Rattle.notation.specs.ChoiceLaws.{either, by_test}
-use Rattle.refusals.specs.Refusals.{accepted, refused_stop, refused_register, refused_slot, refused_full}
+use Rattle.refusals.specs.declared.Refusal.{Refusal}
+use Rattle.refusals.specs.Refusals.{accepted, refused_stop, refused_register, refused_slot, refused_full, is_refused}
 use Rattle.sizes.specs.Sizes.{variables, registers, freed_slots}
 use Rattle.registers.specs.declared.RegType.{RegType}
 use Rattle.registers.specs.declared.RegType.TheVariants.{Temp as TempRegister, Perm as PermSlot}
@@ -23,20 +24,19 @@ use Rattle.variable_records.specs.declared.VarAlloc.TheVariants.{Temp, Perm}
 use Rattle.variable_records.specs.Records.{allocated, placed_at}
 use Rattle.variable_records.specs.Rows.{row_cells, record_at}
 use Rattle.variable_records.specs.TableLaws.{record_put-length}
+use Rattle.perm_free_list.specs.declared.Taken.{Taken}
 use Rattle.perm_free_list.specs.PermFreeList.{entries, looked}
 use Rattle.branch_stack.specs.BranchStack.{current_branch}
-use Rattle.branches.specs.declared.Recorded.{Recorded}
-use Rattle.branches.specs.declared.Recorded.TheVariants.{Well, PastArms}
-use Rattle.branches.specs.Branches.{record_refusal, recorded}
+use Rattle.branches.specs.declared.BranchError.{BranchError}
+use Rattle.branches.specs.Branches.{record_refusal, recorded, past_arms, top_of}
 use Rattle.allocator_state.specs.declared.Counters.{Counters}
-use Rattle.choice.specs.declared.Chosen.{Chosen}
-use Rattle.choice.specs.declared.Chosen.TheVariants.{Register, NoRegister}
 use Rattle.evacuation.specs.declared.Reached.{Reached}
-use Rattle.evacuation.specs.Evacuation.{Sets, Evacuation, alloc_with_cr, alloc_with_ca, going_on, evacuated}
-use Rattle.allocation.specs.Allocation.{Placement, slot_given, slot_taken, without_front, new_slot, slot_found, perm_placed}
+use Rattle.restricting_sets.specs.declared.VariableSets.{VariableSets}
+use Rattle.evacuation.specs.Evacuation.{Evacuation, alloc_with_cr, alloc_with_ca, going_on, evacuated}
+use Rattle.allocation.specs.Allocation.{Placement, slot_given, slot_taken, without_front, new_slot, slot_placed, slot_found, perm_placed}
 use Rattle.freeing.specs.Freeing.{Release, ReleaseOf, pushed_free, freed_as, freed as freeing, counted_or_freed}
 use Rattle.marks.specs.Marks.{RegisterPlacement, chosen_or_refused, alloc_apart, after_evacuation, alloc_shallow, register_placed}
-use Rattle.mark_var.specs.declared.Mark.{Mark}
+use Rattle.reserved_var.specs.declared.Mark.{Mark}
 use Rattle.mark_var.specs.MarkVar.{Noted, noted_slot, noted, settled, Marking, finished_after, finished, instructed_at, instructed_for, reserved_after, reserved_marked}
 use Rattle.mark_var.specs.MarkVar.{VarMark, marked_at, new_temporary_after, new_temporary_marked, new_slot_after, new_slot_marked, slot_marked}
 use Rattle.mark_var.specs.MarkVar.{temporary_marked, permanent_marked, marked_by, var_marked}
@@ -49,7 +49,7 @@ use Rattle.refusals_given.proofs.OfReservedVar.{EvacuationGiven, EvacuationSettl
 
 -- ---- A place
 
-module _ (P : ℕ → Type 0) where
+module _ (P : Option Refusal → Type 0) where
   abbrev pub PlacementGiven : Placement → Type 0
   PlacementGiven p = P p.placed.refusal
 
@@ -71,35 +71,40 @@ module _ (P : ℕ → Type 0) where
   abbrev pub VarMarkGiven : VarMark → Type 0
   VarMarkGiven m = P m.marked.reached.refusal
 
-module _ (P : ℕ → Type 0) (none : P accepted) where
+module _ (P : Option Refusal → Type 0) (none : P accepted) where
   module _ (slot : P refused_slot) where
     new_slot_given : (c : Counters) (records : List ℕ) (v : ℕ) → PlacementGiven P (new_slot c records v)
     unfolding new_slot
     new_slot_given c records v = either (PlacementGiven P) (ltb registers c.perm_lb) slot none
+
+    slot_placed_given :
+        (taken : Option Taken) (c : Counters) (records : List ℕ) (v : ℕ) → PlacementGiven P (slot_placed taken c records v)
+    slot_placed_given (Some taken) c records v = none
+    slot_placed_given None c records v = new_slot_given c records v
 
     pub perm_placed_given :
         (c : Counters) (records list : List ℕ) (v chunk : ℕ) → PlacementGiven P (perm_placed c records list v chunk)
     unfolding perm_placed slot_found
     perm_placed_given c records list v chunk =
         let found = looked records chunk 0 (entries list c.first_freed_slot 0 c.freed_slots) in
-        either (PlacementGiven P) (ltb 0 found.slot) none (new_slot_given (without_front c found.dropped) records v)
+        slot_placed_given found.taken (without_front c found.dropped) records v
 
   module _ (register : P refused_register) where
-    chosen_or_refused_given : (reached : Reached) (choice : Chosen) → P reached.refusal → P (chosen_or_refused reached choice).reached.refusal
-    chosen_or_refused_given reached (Register r) given = given
-    chosen_or_refused_given reached NoRegister given = register
+    chosen_or_refused_given : (reached : Reached) (choice : Option ℕ) → P reached.refusal → P (chosen_or_refused reached choice).reached.refusal
+    chosen_or_refused_given reached (Some r) given = given
+    chosen_or_refused_given reached None given = register
 
-    after_evacuation_given : (e : Evacuation) (s : Sets) (v : ℕ) → EvacuationGiven P e → RegisterGiven P (after_evacuation e s v)
+    after_evacuation_given : (e : Evacuation) (s : VariableSets) (v : ℕ) → EvacuationGiven P e → RegisterGiven P (after_evacuation e s v)
     unfolding after_evacuation
     after_evacuation_given e s v given =
-        either (RegisterGiven P) (ltb 0 e.reached.refusal) given
-        (chosen_or_refused_given e.reached (alloc_with_cr e.reached.counters s.use_sets s.use_counts s.no_use v) given)
+        either (RegisterGiven P) (is_refused e.reached.refusal) given
+        (chosen_or_refused_given e.reached (alloc_with_cr e.reached.counters s v) given)
 
-    module _ (c : Counters) (records mappings : List ℕ) (s : Sets) (v : ℕ) where
+    module _ (c : Counters) (records mappings : List ℕ) (s : VariableSets) (v : ℕ) where
       apart_given : (code : CodeDeque) → P (alloc_apart c s v code).reached.refusal
       unfolding alloc_apart
       apart_given code =
-          chosen_or_refused_given (going_on c code) (alloc_with_ca c s.use_sets s.use_counts s.no_use s.conflict v) none
+          chosen_or_refused_given (going_on c code) (alloc_with_ca c s v) none
 
       shallow_given : (chunk : ℕ) (code : CodeDeque) → RegisterGiven P (alloc_shallow c records mappings s v chunk code)
       unfolding alloc_shallow
@@ -139,9 +144,11 @@ module _ (P : ℕ → Type 0) (none : P accepted) where
         (freed_given c records list chunk v)
 
     module _ (stop : P refused_stop) where
-      recorded_given : (r : Recorded) → P (record_refusal r)
-      recorded_given Well = none
-      recorded_given PastArms = stop
+      recorded_given : (rows sets : List ℕ) (opened : ℕ) → P (record_refusal (recorded rows sets opened))
+      unfolding recorded
+      recorded_given rows sets opened =
+          let RecordGiven : Result ⊤ BranchError → Type 0 = λ r. P (record_refusal r) in
+          either RecordGiven (eqb opened 0) none (either RecordGiven (past_arms (top_of rows sets opened)) stop none)
 
       noted_given :
           (mappings rows sets : List ℕ) (opened v : ℕ) (place : RegType) (is_new : Bool)
@@ -149,14 +156,14 @@ module _ (P : ℕ → Type 0) (none : P accepted) where
       unfolding noted_slot
       noted_given mappings rows sets opened v (TempRegister r) is_new = none
       noted_given mappings rows sets opened v (PermSlot slot) is_new =
-          either (NotedGiven P) is_new (recorded_given (recorded rows sets opened)) none
+          either (NotedGiven P) is_new (recorded_given rows sets opened) none
 
       finished_after_given :
           (n : Noted) → NotedGiven P n → (c : Counters) (records list : List ℕ) (v : ℕ) (context : GenContext) (place : RegType) (code : CodeDeque)
           → MarkingGiven P (finished_after n c records list v context place code)
       unfolding finished_after settled
       finished_after_given n given c records list v context place code =
-          either (MarkingGiven P) (ltb 0 n.refusal) given (counted_or_freed_given c _ list (chunk_num context) v)
+          either (MarkingGiven P) (is_refused n.refusal) given (counted_or_freed_given c _ list (chunk_num context) v)
 
       reserved_after_given :
           (e : Evacuation) → EvacuationGiven P e → (list rows sets : List ℕ) (mark : Mark) (place : RegType) (is_new : Bool)
@@ -164,7 +171,7 @@ module _ (P : ℕ → Type 0) (none : P accepted) where
       unfolding reserved_after finished
       reserved_after_given e given list rows sets mark place is_new =
           let c = e.reached.counters in
-          either (MarkingGiven P) (ltb 0 e.reached.refusal) given
+          either (MarkingGiven P) (is_refused e.reached.refusal) given
           (finished_after_given (noted e.mappings rows sets c.open_branches mark.variable place is_new)
           (noted_given e.mappings rows sets c.open_branches mark.variable place is_new)
           c e.records list mark.variable mark.context place e.reached.code)
@@ -175,11 +182,11 @@ module _ (v : ℕ) where
   abbrev RegisterSettled : RegisterPlacement → Type 0
   RegisterSettled p = SettledIn v p.records
 
-  after_evacuation-settled : (e : Evacuation) (s : Sets) → EvacuationSettled v e → RegisterSettled (after_evacuation e s v)
+  after_evacuation-settled : (e : Evacuation) (s : VariableSets) → EvacuationSettled v e → RegisterSettled (after_evacuation e s v)
   unfolding after_evacuation
-  after_evacuation-settled e s every = either RegisterSettled (ltb 0 e.reached.refusal) every every
+  after_evacuation-settled e s every = either RegisterSettled (is_refused e.reached.refusal) every every
 
-  module _ {records : List ℕ} (every : SettledIn v records) (c : Counters) (mappings : List ℕ) (s : Sets) where
+  module _ {records : List ℕ} (every : SettledIn v records) (c : Counters) (mappings : List ℕ) (s : VariableSets) where
     shallow_settled : (chunk : ℕ) (code : CodeDeque) → RegisterSettled (alloc_shallow c records mappings s v chunk code)
     unfolding alloc_shallow
     shallow_settled chunk code =
@@ -201,7 +208,7 @@ module _ (v : ℕ) where
     slot_given-settled slot = settled-put v records size (allocated (record_at records v) (Perm slot (Done Needed Needed))) tt
 
   abbrev PlacementSettled : Placement → Type 0
-  PlacementSettled p = p.placed.refusal ≤ 0 → SettledIn v p.records
+  PlacementSettled p = is_refused p.placed.refusal ≡ false → SettledIn v p.records
 
   taken_size :
       (records : List ℕ) (owner : ℕ) → length records ≡ variables * row_cells → length (slot_taken records owner) ≡ variables * row_cells
@@ -212,20 +219,23 @@ module _ (v : ℕ) where
     new_slot-settled : (c : Counters) → PlacementSettled (new_slot c records v)
     unfolding new_slot
     new_slot-settled c =
-        either PlacementSettled (ltb registers c.perm_lb) (λ accepts. absurd (omega arith)) (λ accepts. slot_given-settled records size c.perm_lb)
+        either PlacementSettled (ltb registers c.perm_lb) (λ accepts. absurd (true≢false accepts)) (λ accepts. slot_given-settled records size c.perm_lb)
+
+    slot_placed-settled : (taken : Option Taken) (c : Counters) → PlacementSettled (slot_placed taken c records v)
+    slot_placed-settled (Some taken) c =
+        λ accepts. slot_given-settled (slot_taken records taken.owner) (taken_size records taken.owner size) taken.slot
+    slot_placed-settled None c = new_slot-settled c
 
     perm_placed-settled : (c : Counters) (list : List ℕ) (chunk : ℕ) → PlacementSettled (perm_placed c records list v chunk)
     unfolding perm_placed slot_found
     perm_placed-settled c list chunk =
         let found = looked records chunk 0 (entries list c.first_freed_slot 0 c.freed_slots) in
-        either PlacementSettled (ltb 0 found.slot)
-        (λ accepts. slot_given-settled (slot_taken records found.owner) (taken_size records found.owner size) found.slot)
-        (new_slot-settled (without_front c found.dropped))
+        slot_placed-settled found.taken (without_front c found.dropped)
 
 -- ---- A variable
 
-module _ (P : ℕ → Type 0) (none : P accepted) (stop : P refused_stop) (register : P refused_register) (slots : P refused_slot) (full : P refused_full)
-    (k : Kinds) (s : Sets) (fit : Uses k s.use_sets s.use_counts) (mark : Mark) (known : mark.variable < k.count) where
+module _ (P : Option Refusal → Type 0) (none : P accepted) (stop : P refused_stop) (register : P refused_register) (slots : P refused_slot) (full : P refused_full)
+    (k : Kinds) (s : VariableSets) (fit : Uses k s.use_sets s.use_counts) (mark : Mark) (known : mark.variable < k.count) where
   abbrev v : ℕ
   v = mark.variable
 
@@ -238,7 +248,7 @@ module _ (P : ℕ → Type 0) (none : P accepted) (stop : P refused_stop) (regis
         (place : RegType) (is_new : Bool) (level : Level) (branch : Branch) (code : CodeDeque)
         → EvacuationGiven P (instructed_at level c records mappings s mark place is_new branch code)
     instructed_at_given place is_new Deep branch code =
-        subterm_made_given P none k h v (settled_at v every inside) s.use_sets s.use_counts mark.target mark.context place is_new branch code
+        subterm_made_given P none k h v (settled_at v every inside) s mark.target mark.context place is_new branch code
     instructed_at_given place is_new Root branch code =
         argument_marked_given P none register k s fit v known h every mark.target Root mark.context place is_new branch code
     instructed_at_given place is_new Shallow branch code =
@@ -257,7 +267,7 @@ module _ (P : ℕ → Type 0) (none : P accepted) (stop : P refused_stop) (regis
       → VarMarkGiven P (new_temporary_after p s queue rows sets mark)
   unfolding new_temporary_after
   new_temporary_after_given p g every given =
-      either (VarMarkGiven P) (ltb 0 p.placed.reached.refusal) given
+      either (VarMarkGiven P) (is_refused p.placed.reached.refusal) given
       (marked_at_given g.valid every (TempRegister p.placed.place) true p.placed.reached.code)
 
   new_slot_after_given :
@@ -266,8 +276,8 @@ module _ (P : ℕ → Type 0) (none : P accepted) (stop : P refused_stop) (regis
       → VarMarkGiven P (new_slot_after p mappings s queue rows sets mark)
   unfolding new_slot_after
   new_slot_after_given p g every given =
-      by_test (VarMarkGiven P) (ltb 0 p.placed.refusal) (λ e. given)
-      (λ e. marked_at_given g.valid (every (ltb-false 0 p.placed.refusal e)) (PermSlot p.placed.place) true Empty)
+      by_test (VarMarkGiven P) (is_refused p.placed.refusal) (λ e. given)
+      (λ e. marked_at_given g.valid (every e) (PermSlot p.placed.place) true Empty)
 
   module _ {c : Counters} {records mappings queue freed rows sets : List ℕ} (h : Valid k c records mappings queue freed rows sets) where
     new_temporary_given : SettledIn v records → VarMarkGiven P (new_temporary_marked c records mappings s queue rows sets mark)

@@ -1,7 +1,8 @@
 -- What `anon`, `nonvar` and `cut` can be given in any state: rules 4.5, 4.6.
-use Rattle.std.specs.Prelude.{ℕ, List, eqb, ltb}
+use Rattle.std.specs.Prelude.{Option, Some, None, ℕ, List, eqb}
 use Rattle.notation.specs.ChoiceLaws.{either}
-use Rattle.refusals.specs.Refusals.{accepted, refused_register, refused_slot}
+use Rattle.refusals.specs.declared.Refusal.{Refusal}
+use Rattle.refusals.specs.Refusals.{accepted, refused_register, refused_slot, is_refused}
 use Rattle.registers.specs.declared.RegType.{RegType}
 use Rattle.registers.specs.declared.RegType.TheVariants.{Temp as TempRegister}
 use Rattle.instructions.specs.declared.Instruction.{Instruction}
@@ -16,10 +17,9 @@ use Rattle.variable_records.specs.declared.VarAlloc.TheVariants.{Temp, Perm}
 use Rattle.variable_records.specs.declared.VariableRecord.{VariableRecord}
 use Rattle.variable_records.specs.Rows.{record_at}
 use Rattle.allocator_state.specs.declared.Counters.{Counters}
-use Rattle.choice.specs.declared.Chosen.{Chosen}
-use Rattle.choice.specs.declared.Chosen.TheVariants.{Register, NoRegister}
 use Rattle.evacuation.specs.declared.Reached.{Reached}
-use Rattle.evacuation.specs.Evacuation.{Sets, going_on}
+use Rattle.restricting_sets.specs.declared.VariableSets.{VariableSets}
+use Rattle.evacuation.specs.Evacuation.{going_on}
 use Rattle.allocation.specs.Allocation.{Placement, non_var, perm_placed}
 use Rattle.marks.specs.declared.Marked.{Marked}
 use Rattle.other_marks.specs.OtherMarks.{MarkOf, CutOf, emptied_in, turn_taken, marked_at, instructed_at, is_argument}
@@ -28,7 +28,7 @@ use Rattle.other_marks.specs.OtherMarks.{slot_cut_by, slot_cut, register_cut_by,
 use Rattle.refusals_given.proofs.OfReservedVar.{EvacuationGiven, advanced_given, evacuated_given}
 use Rattle.refusals_given.proofs.OfMarkVar.{PlacementGiven, perm_placed_given}
 
-module _ (P : ℕ → Type 0) where
+module _ (P : Option Refusal → Type 0) where
   abbrev MarkedGiven : Marked → Type 0
   MarkedGiven m = P m.reached.refusal
 
@@ -38,20 +38,20 @@ module _ (P : ℕ → Type 0) where
   abbrev pub CutGiven : CutOf → Type 0
   CutGiven m = P m.marked.reached.refusal
 
-module _ (P : ℕ → Type 0) (none : P accepted) (register : P refused_register) where
+module _ (P : Option Refusal → Type 0) (none : P accepted) (register : P refused_register) where
   -- ---- An instruction, or none
 
   marked_at_given : (reached : Reached) (place : RegType) → P reached.refusal → MarkedGiven P (marked_at reached place)
   unfolding marked_at
-  marked_at_given reached place given = either (MarkedGiven P) (ltb 0 reached.refusal) given given
+  marked_at_given reached place given = either (MarkedGiven P) (is_refused reached.refusal) given given
 
   instructed_given :
       (reached : Reached) (instruction : Instruction) (place : RegType) → P reached.refusal
       → MarkedGiven P (instructed_at reached instruction place)
   unfolding instructed_at
-  instructed_given reached instruction place given = either (MarkedGiven P) (ltb 0 reached.refusal) given none
+  instructed_given reached instruction place given = either (MarkedGiven P) (is_refused reached.refusal) given none
 
-  module _ (records mappings : List ℕ) (s : Sets) where
+  module _ (records mappings : List ℕ) (s : VariableSets) where
     emptied_given : (context : GenContext) (c : Counters) → EvacuationGiven P (emptied_in context c records mappings s)
     emptied_given Head c = none
     emptied_given (Mid chunk) c = none
@@ -79,10 +79,10 @@ module _ (P : ℕ → Type 0) (none : P accepted) (register : P refused_register
         (instructed_given (going_on c Empty) _ place none)
 
     anon_chosen_given :
-        (choice : Chosen) (target : Target) (level : Level) (context : GenContext) (c : Counters)
+        (choice : Option ℕ) (target : Target) (level : Level) (context : GenContext) (c : Counters)
         → MarkGiven P (anon_chosen choice c records mappings s target level context)
-    anon_chosen_given NoRegister target level context c = register
-    anon_chosen_given (Register r) target level context c = anon_placed_given target level context (TempRegister r) c
+    anon_chosen_given None target level context c = register
+    anon_chosen_given (Some r) target level context c = anon_placed_given target level context (TempRegister r) c
 
     pub anon_marked_given :
         (list : List ℕ) (target : Target) (level : Level) (context : GenContext) (c : Counters)
@@ -93,9 +93,9 @@ module _ (P : ℕ → Type 0) (none : P accepted) (register : P refused_register
 
     -- ---- A term that is no variable
 
-    term_chosen_given : (choice : Chosen) (c : Counters) → MarkedGiven P (term_chosen choice c)
-    term_chosen_given NoRegister c = register
-    term_chosen_given (Register r) c = none
+    term_chosen_given : (choice : Option ℕ) (c : Counters) → MarkedGiven P (term_chosen choice c)
+    term_chosen_given None c = register
+    term_chosen_given (Some r) c = none
 
     cell_marked_given : (list : List ℕ) (cell : ℕ) (c : Counters) → MarkedGiven P (cell_marked c list cell)
     unfolding cell_marked term_marked
@@ -119,13 +119,13 @@ module _ (P : ℕ → Type 0) (none : P accepted) (register : P refused_register
   module _ (slot : P refused_slot) where
     slot_cut_by_given : (p : Placement) → PlacementGiven P p → CutGiven P (slot_cut_by p)
     unfolding slot_cut_by
-    slot_cut_by_given p given = either (CutGiven P) (ltb 0 p.placed.refusal) given none
+    slot_cut_by_given p given = either (CutGiven P) (is_refused p.placed.refusal) given none
 
     register_cut_by_given :
-        (choice : Chosen) (c : Counters) (records : List ℕ) (v : ℕ) (variable : VariableRecord) (context : GenContext) (to_perm : ℕ)
+        (choice : Option ℕ) (c : Counters) (records : List ℕ) (v : ℕ) (variable : VariableRecord) (context : GenContext) (to_perm : ℕ)
         → CutGiven P (register_cut_by choice c records v variable context to_perm)
-    register_cut_by_given NoRegister c records v variable context to_perm = register
-    register_cut_by_given (Register r) c records v variable context to_perm = none
+    register_cut_by_given None c records v variable context to_perm = register
+    register_cut_by_given (Some r) c records v variable context to_perm = none
 
     cut_as_given :
         (allocation : VarAlloc) (c : Counters) (records perm_list list : List ℕ) (v chunk : ℕ)

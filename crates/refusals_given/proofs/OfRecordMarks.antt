@@ -1,17 +1,14 @@
 -- Rule 4.8: a mark can meet the record of a temporary, and that of a permanent variable that is Done.
-use Rattle.std.specs.Prelude.{ℕ, ◌*◌, ◌<◌, ◌≡◌, refl, true, List, length}
+use Rattle.std.specs.Prelude.{ℕ, ◌*◌, ◌<◌, ◌≡◌, refl, true, List, length, Option, Some, None}
 use Rattle.std.proofs.Common.{sym, subst, ◌∙◌}
 use Rattle.std.proofs.lemmas.Bool.{false≢true}
 use Rattle.notation.specs.ChoiceLaws.{either}
 use Rattle.sizes.specs.Sizes.{variables}
 use Rattle.forms.specs.declared.Branch.{Branch}
 use Rattle.forms.specs.declared.GenContext.{GenContext}
-use Rattle.forms.specs.declared.GenContext.TheVariants.{Head, Mid, Last}
 use Rattle.forms.specs.declared.Level.{Level}
-use Rattle.forms.specs.declared.Level.TheVariants.{Root, Shallow, Deep}
 use Rattle.registers.specs.declared.RegType.{RegType}
 use Rattle.targets.specs.declared.Target.{Target}
-use Rattle.variable_records.specs.declared.VarSafetyStatus.{VarSafetyStatus}
 use Rattle.variable_records.specs.declared.PermVarAllocation.TheVariants.{Done, Pending}
 use Rattle.variable_records.specs.declared.VarAlloc.{VarAlloc}
 use Rattle.variable_records.specs.declared.VarAlloc.TheVariants.{Temp, Perm}
@@ -20,11 +17,7 @@ use Rattle.variable_records.specs.Records.{placed_alloc, placed_at}
 use Rattle.variable_records.specs.Rows.{row_cells, record_at, record_put}
 use Rattle.variable_records.specs.TableLaws.{record_put-same, record_put-length}
 use Rattle.variable_records.specs.Safety.{safety_unneeded}
-use Rattle.record_marks.specs.declared.MarkedSafe.{MarkedSafe}
-use Rattle.record_marks.specs.declared.MarkedSafe.TheVariants.{Safe, FromTemporary, Stopped}
-use Rattle.record_marks.specs.declared.Valued.{Valued}
-use Rattle.record_marks.specs.declared.Valued.TheVariants.{Value, Stopped as Halted}
-use Rattle.record_marks.specs.RecordMarks.{argument_safe, argument_value_of, subterm_value_of, safe_argument, safe_at, marked_safe_of, remembered_of}
+use Rattle.record_marks.specs.RecordMarks.{argument_safe, argument_value_of, subterm_value_of, marked_safe_of, remembered_of}
 use Rattle.invariants.specs.Every.{Every, every_at, every_put}
 use Rattle.valid_stays.specs.Fits.{Kinds, AllocFits}
 
@@ -34,14 +27,9 @@ Settled (Temp context register safety to_perm) = Unit {0}
 Settled (Perm slot (Done shallow deep)) = Unit {0}
 Settled (Perm slot Pending) = ⊥
 
-abbrev pub GoesOn : Valued → Type 0
-GoesOn (Value variable instruction) = Unit {0}
-GoesOn Halted = ⊥
-
-abbrev pub GoesSafely : MarkedSafe → Type 0
-GoesSafely (Safe variable) = Unit {0}
-GoesSafely FromTemporary = Unit {0}
-GoesSafely Stopped = ⊥
+abbrev pub GoesOn : {A : Type 0} → Option A → Type 0
+GoesOn (Some made) = Unit {0}
+GoesOn None = ⊥
 
 -- ---- One record
 
@@ -65,29 +53,17 @@ module _ (variable : VariableRecord) where
   subterm_goes (Perm slot (Done shallow deep)) settled target place branch =
       either GoesOn (safety_unneeded deep branch) tt tt
 
-  safe_argument_goes : (slot : ℕ) (deep : VarSafetyStatus) (context : GenContext) → GoesSafely (safe_argument variable slot deep context)
-  safe_argument_goes slot deep Head = tt
-  safe_argument_goes slot deep (Mid chunk) = tt
-  safe_argument_goes slot deep (Last chunk) = tt
-
-  safe_at_goes :
-      (level : Level) (slot : ℕ) (deep : VarSafetyStatus) (context : GenContext) (branch : Branch)
-      → GoesSafely (safe_at level variable slot deep context branch)
-  safe_at_goes Deep slot deep context branch = tt
-  safe_at_goes Root slot deep context branch = safe_argument_goes slot deep context
-  safe_at_goes Shallow slot deep context branch = safe_argument_goes slot deep context
-
   pub safe_goes :
       (allocation : VarAlloc) → Settled allocation → (level : Level) (context : GenContext) (branch : Branch)
-      → GoesSafely (marked_safe_of allocation variable level context branch)
+      → GoesOn (marked_safe_of allocation variable level context branch)
   safe_goes (Temp at register safety to_perm) settled level context branch = tt
   safe_goes (Perm slot Pending) settled level context branch = settled
-  safe_goes (Perm slot (Done shallow deep)) settled level context branch = safe_at_goes level slot deep context branch
+  safe_goes (Perm slot (Done shallow deep)) settled level context branch = tt
 
   -- only a temporary has to remember
   pub remembered_goes :
       (k : Kinds) (w : ℕ) (allocation : VarAlloc) → AllocFits k w allocation → k.temporary w ≡ true
-      → (v : ℕ) → GoesSafely (remembered_of allocation variable v)
+      → (v : ℕ) → GoesOn (remembered_of allocation variable v)
   remembered_goes k w (Temp context register safety to_perm) fits temporary v = tt
   remembered_goes k w (Perm slot allocation) fits temporary v = absurd (false≢true (sym fits.0 ∙ temporary))
 

@@ -1,8 +1,9 @@
 -- In a valid state an instruction for a settled variable is refused by rule 4.5 alone.
-use Rattle.std.specs.Prelude.{ℕ, ◌<◌, Bool, List, eqb, leb, ltb}
+use Rattle.std.specs.Prelude.{ℕ, ◌<◌, Bool, List, eqb, leb, Option, Some, None}
 use Rattle.std.proofs.Common.{arith, leb-false}
 use Rattle.notation.specs.ChoiceLaws.{either, by_test}
-use Rattle.refusals.specs.Refusals.{accepted, refused_register}
+use Rattle.refusals.specs.declared.Refusal.{Refusal}
+use Rattle.refusals.specs.Refusals.{accepted, refused_register, is_refused}
 use Rattle.sizes.specs.Sizes.{variables}
 use Rattle.forms.specs.Forms.{chunk_num}
 use Rattle.forms.specs.declared.Branch.{Branch}
@@ -13,17 +14,18 @@ use Rattle.registers.specs.declared.RegType.{RegType}
 use Rattle.instructions.specs.declared.Instruction.{Instruction}
 use Rattle.targets.specs.declared.Target.{Target}
 use Rattle.code_deque.specs.declared.CodeDeque.{CodeDeque}
+use Rattle.variable_records.specs.declared.VariableRecord.{VariableRecord}
 use Rattle.variable_records.specs.Rows.{record_at}
 use Rattle.shallow_temp_mappings.specs.Mappings.{mapped_at}
 use Rattle.allocator_state.specs.declared.Counters.{Counters}
 use Rattle.evacuation.specs.declared.Hint.{Hint}
 use Rattle.evacuation.specs.declared.Hint.TheVariants.{Stays, Moves, NoRegister as Nowhere}
 use Rattle.evacuation.specs.declared.Reached.{Reached}
-use Rattle.evacuation.specs.Evacuation.{Sets, Evacuation, hint, moved_to, evacuated_by, evacuated}
+use Rattle.restricting_sets.specs.declared.VariableSets.{VariableSets}
+use Rattle.evacuation.specs.Evacuation.{Evacuation, hint, moved_to, evacuated_by, evacuated}
 use Rattle.record_marks.specs.declared.MarkedSafe.{MarkedSafe}
-use Rattle.record_marks.specs.declared.MarkedSafe.TheVariants.{Safe, FromTemporary, Stopped}
+use Rattle.record_marks.specs.declared.MarkedSafe.TheVariants.{Safe, FromTemporary}
 use Rattle.record_marks.specs.declared.Valued.{Valued}
-use Rattle.record_marks.specs.declared.Valued.TheVariants.{Value, Stopped as Halted}
 use Rattle.record_marks.specs.RecordMarks.{in_place, marked_safe, argument_value, subterm_value, remembered_perm}
 use Rattle.reserved_var.specs.ReservedVar.{SafeStep, safe_kept, remembered, safe_made_by, safe_made, Step, instructed_after, value_kept, argument_made, met, subterm_made}
 use Rattle.reserved_var.specs.ReservedVar.{others_out, advanced_by, marked_after, argument_marked}
@@ -32,10 +34,10 @@ use Rattle.valid_stays.proofs.RecordsFit.{record_fits}
 use Rattle.valid_stays.proofs.TablesFit.{mapped_at_lem, named-temporary}
 use Rattle.valid_stays.proofs.OfEvacuation.{EvacuationValid}
 use Rattle.valid_stays.proofs.OfReservedVar.{others_out_valid}
-use Rattle.refusals_given.proofs.OfRecordMarks.{Settled, GoesOn, GoesSafely, argument_goes, subterm_goes, safe_goes, remembered_goes, SettledIn, settled_at, settled_placed}
+use Rattle.refusals_given.proofs.OfRecordMarks.{Settled, GoesOn, argument_goes, subterm_goes, safe_goes, remembered_goes, SettledIn, settled_at, settled_placed}
 
 -- P holds of what a step is given
-module _ (P : ℕ → Type 0) where
+module _ (P : Option Refusal → Type 0) where
   abbrev pub ReachedGiven : Reached → Type 0
   ReachedGiven reached = P reached.refusal
 
@@ -48,27 +50,26 @@ module _ (P : ℕ → Type 0) where
   abbrev SafeGiven : SafeStep → Type 0
   SafeGiven s = P s.refusal
 
-module _ (P : ℕ → Type 0) (none : P accepted) where
+module _ (P : Option Refusal → Type 0) (none : P accepted) where
   pub advanced_given : (reached : Reached) → ReachedGiven P reached → ReachedGiven P (advanced_by reached)
   unfolding advanced_by
-  advanced_given reached given = either (ReachedGiven P) (ltb 0 reached.refusal) given none
+  advanced_given reached given = either (ReachedGiven P) (is_refused reached.refusal) given none
 
   instructed_given :
-      (c : Counters) (code : CodeDeque) (refusal : ℕ) (instruction : Instruction) → P refusal
+      (c : Counters) (code : CodeDeque) (refusal : Option Refusal) (instruction : Instruction) → P refusal
       → ReachedGiven P (instructed_after c code refusal instruction)
   unfolding instructed_after
-  instructed_given c code refusal instruction given = either (ReachedGiven P) (ltb 0 refusal) given none
+  instructed_given c code refusal instruction given = either (ReachedGiven P) (is_refused refusal) given none
 
-  safe_kept_given : (records : List ℕ) (v : ℕ) (marked : MarkedSafe) → GoesSafely marked → SafeGiven P (safe_kept records v marked)
-  safe_kept_given records v (Safe variable) goes = none
-  safe_kept_given records v FromTemporary goes = none
-  safe_kept_given records v Stopped goes = absurd goes
+  safe_kept_given : (records : List ℕ) (v : ℕ) (made : Option VariableRecord) → GoesOn made → SafeGiven P (safe_kept records v made)
+  safe_kept_given records v (Some variable) goes = none
+  safe_kept_given records v None goes = absurd goes
 
   value_given :
-      (c : Counters) (records : List ℕ) (v : ℕ) (valued : Valued) (code : CodeDeque) → GoesOn valued
+      (c : Counters) (records : List ℕ) (v : ℕ) (valued : Option Valued) (code : CodeDeque) → GoesOn valued
       → StepGiven P (value_kept c records v valued code)
-  value_given c records v (Value variable instruction) code goes = instructed_given c code accepted instruction none
-  value_given c records v Halted code goes = absurd goes
+  value_given c records v (Some valued) code goes = instructed_given c code accepted valued.instruction none
+  value_given c records v None code goes = absurd goes
 
   module _ (k : Kinds) {c : Counters} {records mappings queue freed rows sets : List ℕ} (h : Valid k c records mappings queue freed rows sets)
       (v : ℕ) (settled : Settled (record_at records v).allocation) where
@@ -83,10 +84,10 @@ module _ (P : ℕ → Type 0) (none : P accepted) where
         (remembered_goes (record_at records u) k u (record_at records u).allocation (record_fits k h.recorded u named.0).alloc
         named.1 v)))
 
-    safe_made_by_given : (marked : MarkedSafe) (n : ℕ) → GoesSafely marked → SafeGiven P (safe_made_by marked records mappings n v)
-    safe_made_by_given (Safe variable) n goes = none
-    safe_made_by_given FromTemporary n goes = remembered_given n
-    safe_made_by_given Stopped n goes = absurd goes
+    safe_made_by_given : (marked : Option MarkedSafe) (n : ℕ) → GoesOn marked → SafeGiven P (safe_made_by marked records mappings n v)
+    safe_made_by_given (Some (Safe variable)) n goes = none
+    safe_made_by_given (Some FromTemporary) n goes = remembered_given n
+    safe_made_by_given None n goes = absurd goes
 
     safe_made_given :
         (n : ℕ) (level : Level) (context : GenContext) (branch : Branch)
@@ -110,12 +111,12 @@ module _ (P : ℕ → Type 0) (none : P accepted) where
         (argument_goes variable variable.allocation settled target place c.arg_c c.in_tail_position branch)))
 
     pub subterm_made_given :
-        (use_sets use_counts : List ℕ) (target : Target) (context : GenContext) (place : RegType) (is_new : Bool) (branch : Branch) (code : CodeDeque)
-        → StepGiven P (subterm_made c records mappings use_sets use_counts target context v place is_new branch code)
+        (s : VariableSets) (target : Target) (context : GenContext) (place : RegType) (is_new : Bool) (branch : Branch) (code : CodeDeque)
+        → StepGiven P (subterm_made c records mappings s target context v place is_new branch code)
     unfolding subterm_made
-    subterm_made_given use_sets use_counts target context place is_new branch code =
+    subterm_made_given s target context place is_new branch code =
         let variable = record_at records v in
-        either (StepGiven P) (met records use_sets use_counts context v place is_new)
+        either (StepGiven P) (met records s context v place is_new)
         (value_given c records v (subterm_value variable target place branch) code
         (subterm_goes variable variable.allocation settled target place branch))
         (instructed_given c code (safe_made records mappings c.arg_c v Deep context branch).refusal _
@@ -133,13 +134,13 @@ module _ (P : ℕ → Type 0) (none : P accepted) where
     evacuated_by_given (Moves v r) c records mappings code = either (EvacuationGiven P) (eqb r c.arg_c) none none
 
     pub evacuated_given :
-        (c : Counters) (records mappings : List ℕ) (s : Sets) (chunk : ℕ) (code : CodeDeque)
+        (c : Counters) (records mappings : List ℕ) (s : VariableSets) (chunk : ℕ) (code : CodeDeque)
         → EvacuationGiven P (evacuated c records mappings s chunk code)
     unfolding evacuated
     evacuated_given c records mappings s chunk code = evacuated_by_given (hint c records mappings s chunk) c records mappings code
 
     others_out_given :
-        (c : Counters) (records mappings : List ℕ) (s : Sets) (v chunk : ℕ) (code : CodeDeque)
+        (c : Counters) (records mappings : List ℕ) (s : VariableSets) (v chunk : ℕ) (code : CodeDeque)
         → EvacuationGiven P (others_out c records mappings s v chunk code)
     unfolding others_out
     others_out_given c records mappings s v chunk code =
@@ -167,13 +168,13 @@ module _ (v : ℕ) where
         either EvacuationSettled (eqb r c.arg_c) every (moved_settled c mappings code u r)
 
     pub evacuated-settled :
-        (c : Counters) (mappings : List ℕ) (s : Sets) (chunk : ℕ) (code : CodeDeque)
+        (c : Counters) (mappings : List ℕ) (s : VariableSets) (chunk : ℕ) (code : CodeDeque)
         → EvacuationSettled (evacuated c records mappings s chunk code)
     unfolding evacuated
     evacuated-settled c mappings s chunk code = evacuated_by-settled (hint c records mappings s chunk) c mappings code
 
     others_out-settled :
-        (c : Counters) (mappings : List ℕ) (s : Sets) (chunk : ℕ) (code : CodeDeque)
+        (c : Counters) (mappings : List ℕ) (s : VariableSets) (chunk : ℕ) (code : CodeDeque)
         → EvacuationSettled (others_out c records mappings s v chunk code)
     unfolding others_out
     others_out-settled c mappings s chunk code =
@@ -183,7 +184,7 @@ module _ (v : ℕ) where
 
 -- ---- A variable as an argument
 
-module _ (P : ℕ → Type 0) (none : P accepted) (register : P refused_register) (k : Kinds) (s : Sets) (fit : Uses k s.use_sets s.use_counts)
+module _ (P : Option Refusal → Type 0) (none : P accepted) (register : P refused_register) (k : Kinds) (s : VariableSets) (fit : Uses k s.use_sets s.use_counts)
     (v : ℕ) (known : v < k.count) where
   marked_after_given :
       {queue freed rows sets : List ℕ} (e : Evacuation) → EvacuationValid k queue freed rows sets e → EvacuationSettled v e → EvacuationGiven P e
@@ -191,7 +192,7 @@ module _ (P : ℕ → Type 0) (none : P accepted) (register : P refused_register
       → EvacuationGiven P (marked_after e target level context v place is_new branch)
   unfolding marked_after
   marked_after_given e h every given target level context place is_new branch =
-      either (EvacuationGiven P) (ltb 0 e.reached.refusal) given
+      either (EvacuationGiven P) (is_refused e.reached.refusal) given
       (advanced_given P none
       (argument_made e.reached.counters e.records e.mappings target level context v place is_new branch e.reached.code).reached
       (argument_made_given P none k h v (settled_at v every (omega (arith, k.small))) target level context place is_new branch e.reached.code))

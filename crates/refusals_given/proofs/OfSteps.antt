@@ -1,33 +1,32 @@
 -- In a valid state each line is given what its row says; what refuses it before it is carried out, only then.
-use Rattle.std.specs.Prelude.{ℕ, ◌≤◌, ◌≡◌, true, false, List, ◌∷◌, leb, ltb, length}
-use Rattle.std.proofs.Common.{true≢false, arith, ltb-true, ltb-false}
+use Rattle.std.specs.Prelude.{ℕ, ◌≡◌, true, false, List, ◌∷◌, leb, ltb, length, Option}
+use Rattle.std.proofs.Common.{true≢false, arith, ltb-true}
 use Rattle.std.proofs.lemmas.Bool.{false≢true}
 use Rattle.notation.specs.ChoiceLaws.{both_true, either, by_test}
-use Rattle.refusals.specs.Refusals.{accepted}
+use Rattle.refusals.specs.declared.Refusal.{Refusal}
+use Rattle.refusals.specs.Refusals.{accepted, is_refused}
 use Rattle.sizes.specs.Sizes.{variables, uses}
 use Rattle.clause_records.specs.ClauseRecords.{Rows, rows}
 use Rattle.events.specs.declared.Event.{Event}
 use Rattle.events.specs.declared.Event.TheVariants.{Temp, Perm, Sets, Head, Args, Var, Anon, NonVar, Cut, Incr, Free, Safe, Give, Tail, Next, Open, Arm, Take, Close, Reset, Contents, ClearFree}
-use Rattle.events.specs.Events.{context_fits, is_record, refusal_before}
+use Rattle.events.specs.Events.{context_fits, refusal_before}
 use Rattle.allocator_state.specs.declared.Counters.{Counters}
 use Rattle.debray_allocator.specs.declared.State.{State}
-use Rattle.debray_allocator.specs.declared.Acted.{Acted}
 use Rattle.debray_allocator.specs.declared.Answer.{Answer}
-use Rattle.debray_allocator.specs.DebrayAllocator.{sets_of, carried_out, seen_after, seen_in, refused_with, acted, unless_refused, stepped}
-use Rattle.invariants.specs.Lists.{All}
+use Rattle.debray_allocator.specs.DebrayAllocator.{carried_out, refused_with, acted, unless_refused, stepped}
 use Rattle.invariants.specs.OfEvents.{unrefused_in_size}
 use Rattle.valid_stays.specs.Fits.{Kinds, StateFits}
-use Rattle.refusals_given.specs.Given.{refusals_of, carrying_refusals}
+use Rattle.refusals_given.specs.Given.{AllGiven, refusals_of, carrying_refusals}
 use Rattle.refusals_given.proofs.OfMarkVar.{var_marked_given, freed_given}
 use Rattle.refusals_given.proofs.OfOtherMarks.{anon_marked_given, non_var_marked_given, cut_marked_given}
 use Rattle.refusals_given.proofs.OfEvents.{unrefused_not_full, neither_second, before_given, perm_recorded_given, temp_recorded_given, give_given, incremented_given, open_given, arm_given, safe_given, close_given, take_given}
 
--- P holds of 0 and of a row
-abbrev pub Row : (ℕ → Type 0) → Event → Type 0
-Row P event = All P (accepted ∷ refusals_of event)
+-- P holds of no refusal and of a row
+abbrev pub Row : (Option Refusal → Type 0) → Event → Type 0
+Row P event = AllGiven P (accepted ∷ refusals_of event)
 
-abbrev pub CarryingRow : (ℕ → Type 0) → Event → Type 0
-CarryingRow P event = All P (accepted ∷ carrying_refusals event)
+abbrev pub CarryingRow : (Option Refusal → Type 0) → Event → Type 0
+CarryingRow P event = AllGiven P (accepted ∷ carrying_refusals event)
 
 -- a test that is never met, and one that always is
 never : {A : Type 0} → false ≡ true → A
@@ -36,7 +35,7 @@ never e = absurd (false≢true e)
 always : {A : Type 0} → true ≡ false → A
 always e = absurd (true≢false e)
 
-module _ (P : ℕ → Type 0) (s : State) where
+module _ (P : Option Refusal → Type 0) (s : State) where
   abbrev c : Counters
   c = s.counters
 
@@ -96,14 +95,14 @@ module _ (P : ℕ → Type 0) (s : State) where
 
   module _ (k : Kinds) (fits : StateFits k s) where
     abbrev tables : Rows
-    tables = rows s.records s.use_counts s.no_use s.conflict
+    tables = rows s.records s.sets
 
     carried :
-        (event : Event) (list : List ℕ) → refusal_before c event list ≤ accepted → CarryingRow P event
+        (event : Event) (list : List ℕ) → is_refused (refusal_before c event list) ≡ false → CarryingRow P event
         → P (carried_out s event list).refusal
     carried (Temp context occurrences) list unrefused (none, end) =
         let room = neither_second (ltb uses (length list)) (leb variables c.records) (unrefused_not_full c (Temp context occurrences) list unrefused) in
-        temp_recorded_given P none c room tables s.use_sets context occurrences list
+        temp_recorded_given P none c room tables context occurrences list
     carried (Perm occurrences) list unrefused (none, end) =
         perm_recorded_given P none c (unrefused_not_full c (Perm occurrences) list unrefused) tables occurrences
     carried Sets list unrefused (none, end) = none
@@ -111,27 +110,27 @@ module _ (P : ℕ → Type 0) (s : State) where
     carried (Args count) list unrefused (none, end) = none
     carried (Var target level context v) list unrefused (none, (stop, (register, (slot, (full, end))))) =
         let b = both_true (context_fits context) (ltb v c.records) (unrefused_in_size c (Var target level context v) list unrefused) in
-        var_marked_given P none stop register slot full k (sets_of s) fits.uses
+        var_marked_given P none stop register slot full k s.sets fits.uses
         (record { target = target; level = level; context = context; variable = v })
         (omega (arith, ltb-true v c.records b.1, fits.whole.counted.records)) fits.whole
     carried (Anon target level context) list unrefused (none, (register, end)) =
-        anon_marked_given P none register s.records s.mappings (sets_of s) s.freed_registers target level context c
+        anon_marked_given P none register s.records s.mappings s.sets s.freed_registers target level context c
     carried (NonVar level context cell) list unrefused (none, (register, end)) =
-        non_var_marked_given P none register s.records s.mappings (sets_of s) s.freed_registers level context cell c
+        non_var_marked_given P none register s.records s.mappings s.sets s.freed_registers level context cell c
     carried (Cut v chunk) list unrefused (none, (register, (slot, end))) =
         cut_marked_given P none register slot c s.records s.freed_slots s.freed_registers v chunk
     carried (Incr v) list unrefused (none, (full, end)) = incremented_given P none full s.records v
     carried (Free chunk v) list unrefused (none, (full, end)) = freed_given P none full c s.records s.freed_slots chunk v
-    carried (Safe v) list unrefused (none, (stop, end)) = safe_given P none stop s.records s.branch_rows c.open_branches v
+    carried (Safe v) list unrefused (none, (stop, end)) = safe_given P none stop s.records s.branches.rows c.open_branches v
     carried (Give r) list unrefused (none, (full, end)) = give_given P none full c s.freed_registers r
     carried (Tail tail) list unrefused (none, end) = none
     carried Next list unrefused (none, end) = none
     carried (Open start span arms) list unrefused (none, (full, end)) =
-        open_given P none full c s.branch_rows s.branch_sets start span arms
-    carried (Arm start span) list unrefused (none, (stop, (full, end))) = arm_given P none full stop c s.branch_rows s.branch_sets start span
+        open_given P none full c s.branches.rows s.branches.sets start span arms
+    carried (Arm start span) list unrefused (none, (stop, (full, end))) = arm_given P none full stop c s.branches.rows s.branches.sets start span
     carried Take list unrefused (none, (stop, end)) = take_given P none stop k fits.whole
     carried (Close depth) list unrefused (none, (stop, end)) =
-        close_given P none stop c s.records s.branch_rows s.branch_sets depth list
+        close_given P none stop c s.records s.branches.rows s.branches.sets depth list
     carried Reset list unrefused (none, end) = none
     carried Contents list unrefused (none, end) = none
     carried ClearFree list unrefused (none, end) = none
@@ -139,23 +138,18 @@ module _ (P : ℕ → Type 0) (s : State) where
     abbrev AnswerGiven : Answer → Type 0
     AnswerGiven a = P a.refusal
 
-    seen_given : (a : Answer) (event : Event) → AnswerGiven a → AnswerGiven (seen_in a event)
-    unfolding seen_after
-    seen_given a event given = either (λ (acted : Acted). P acted.refusal) (is_record event) given given
-
     module _ (event : Event) (list : List ℕ) (first : P (refusal_before c event list)) (row : CarryingRow P event) where
       acted_given : AnswerGiven (acted s event list)
       unfolding acted refused_with
       acted_given =
           let refusal = refusal_before c event list in
-          by_test AnswerGiven (ltb 0 refusal) (λ e. first)
-          (λ e. seen_given (carried_out s event list) event
-          (carried event list (ltb-false 0 refusal e) row))
+          by_test AnswerGiven (is_refused refusal) (λ e. first)
+          (λ e. carried event list e row)
 
       -- by what refuses it before, and by what refuses it while it is carried out
       pub stepped_by : P (stepped s event list).refusal
       unfolding stepped unless_refused refused_with
-      stepped_by = either AnswerGiven (ltb 0 (acted s event list).refusal) acted_given acted_given
+      stepped_by = either AnswerGiven (is_refused (acted s event list).refusal) acted_given acted_given
 
     pub stepped_given : (event : Event) (list : List ℕ) → Row P event → P (stepped s event list).refusal
     stepped_given event list row = stepped_by event list (before event list row) (carrying event row)

@@ -17,7 +17,7 @@ module _ (s : State) (list : List ℕ) where
 
   -- the arm index would pass 65,535
   abbrev pub last_arm : Bool
-  last_arm = leb counts (top_of s.branch_rows s.branch_sets s.counters.open_branches).current_branch_idx
+  last_arm = leb counts (top_of s.branches.rows s.branches.sets s.counters.open_branches).current_branch_idx
 
 -- ---- `close`: rules 4.4, 15.7
 
@@ -28,7 +28,7 @@ module _ (s : State) (depth : ℕ) (list : List ℕ) where
   abbrev pub cannot_close : Bool
   cannot_close =
       ltb level depth
-      || (names_temporary s.records list || nowhere_recorded s.branch_rows s.branch_sets (level - depth) list)
+      || (names_temporary s.records list || nowhere_recorded s.branches.rows s.branches.sets (level - depth) list)
 
 -- ---- `safe`: rule 4.4
 

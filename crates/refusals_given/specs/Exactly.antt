@@ -1,7 +1,7 @@
 -- When a refusal is given, both ways (rule 25.3). To a line in a valid state: rules 4.1 to 4.3, and rule 4.7 of events that
 -- fill nothing while they are carried out (of the others see CarriedExactly). To a sheet as a whole: rule 4.10. To a call: its
 -- state, its length and its form, rules 17.3, 17.4, 17.6.
-use Rattle.std.specs.Prelude.{ℕ, ◌≤◌, ◌<◌, Bool, true, ◌&&◌, ltb}
+use Rattle.std.specs.Prelude.{ℕ, ◌≤◌, ◌<◌, Bool, true, ◌&&◌, ltb, None}
 use Rattle.std.proofs.Math.Path.{◌≡◌}
 use mathlib.Core.List.{List, [], ◌∷◌}
 use Rattle.std.proofs.Math.ListN.{length}
@@ -10,7 +10,6 @@ use Rattle.sizes.specs.Sizes.{sheet_bytes}
 use Rattle.events.specs.declared.Event.{Event}
 use Rattle.events.specs.declared.Event.TheVariants.{Temp, Perm, Sets, Head, Args, Var, Anon, NonVar, Cut, Incr, Free, Safe, Give, Tail, Next, Open, Arm, Take, Close, Reset, Contents, ClearFree}
 use Rattle.events.specs.Events.{in_size, is_full, is_record}
-use Rattle.event_lines.specs.declared.Line.TheVariants.{Malformed}
 use Rattle.event_lines.specs.EventLines.{line_says}
 use Rattle.debray_allocator.specs.declared.State.{State}
 use Rattle.event_sheets.specs.EventSheets.{sheet_ran}
@@ -59,7 +58,7 @@ module _ (s : State) (event : Event) (list : List ℕ) where
 module _ (sheet : List ℕ) (lent : ℕ) where
   -- no line is refused, and the text is longer than the room
   abbrev pub Roomless : Type 0
-  Roomless = (length sheet ≤ sheet_bytes) × ((sheet_ran sheet).refusal ≤ accepted) × (lent < length (sheet_ran sheet).text)
+  Roomless = (length sheet ≤ sheet_bytes) × ((sheet_ran sheet).refusal ≡ accepted) × (lent < length (sheet_ran sheet).text)
 
 -- ---- A call
 
@@ -72,6 +71,6 @@ module _ (s : State) (bytes : List ℕ) (lent : ℕ) where
 abbrev pub Formless : List (List ℕ) → Type 0
 Formless [] = Unit {0}
 Formless (left ∷ []) = Unit {0}
-Formless (line ∷ ([] ∷ [])) = line_says line ≡ Malformed
+Formless (line ∷ ([] ∷ [])) = line_says line ≡ None
 Formless (line ∷ ([] ∷ (other ∷ others))) = Unit {0}
 Formless (line ∷ ((byte ∷ more) ∷ others)) = Unit {0}

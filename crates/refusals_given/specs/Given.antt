@@ -1,11 +1,22 @@
 -- Which refusals a line of an event sheet can be given, by what it says, and which of them only while it is carried out.
-use Rattle.std.specs.Prelude.{ℕ, List, [], ◌∷◌}
-use Rattle.refusals.specs.Refusals.{refused_order, refused_size, refused_stop, refused_register, refused_slot, refused_full}
+use Rattle.std.specs.Prelude.{ℕ, Option, Some, None, List, [], ◌∷◌}
+use Rattle.refusals.specs.declared.Refusal.{Refusal}
+use Rattle.refusals.specs.Refusals.{number_of, refused_order, refused_size, refused_stop, refused_register, refused_slot, refused_full}
 use Rattle.events.specs.declared.Event.{Event}
 use Rattle.events.specs.declared.Event.TheVariants.{Temp, Perm, Sets, Head, Args, Var, Anon, NonVar, Cut, Incr, Free, Safe, Give, Tail, Next, Open, Arm, Take, Close, Reset, Contents, ClearFree}
 
+-- the number of what a line is given, 0 for nothing
+abbrev pub number_in : Option Refusal → ℕ
+number_in None = 0
+number_in (Some refusal) = number_of refusal
+
+-- what holds of each of some refusals
+abbrev pub AllGiven : (Option Refusal → Type 0) → List (Option Refusal) → Type 0
+AllGiven P [] = Unit {0}
+AllGiven P (refusal ∷ others) = P refusal × AllGiven P others
+
 -- a line whose form is right; by rule 4.8 no row has 8
-abbrev pub refusals_of : Event → List ℕ
+abbrev pub refusals_of : Event → List (Option Refusal)
 refusals_of (Temp context occurrences) = refused_order ∷ (refused_size ∷ (refused_full ∷ []))
 refusals_of (Perm occurrences) = refused_order ∷ (refused_size ∷ (refused_full ∷ []))
 refusals_of Sets = []
@@ -30,7 +41,7 @@ refusals_of Contents = []
 refusals_of ClearFree = []
 
 -- by a line that nothing refused before
-abbrev pub carrying_refusals : Event → List ℕ
+abbrev pub carrying_refusals : Event → List (Option Refusal)
 carrying_refusals (Temp context occurrences) = []
 carrying_refusals (Perm occurrences) = []
 carrying_refusals Sets = []

@@ -12,13 +12,15 @@ pub enum RegType {
     Perm(u32),
 }
 
-// A place's number.
-pub fn number_of(place: RegType) -> u32
-    ensures { result ≡ number_of_place place }
-{
-    match place {
-        RegType::Temp(r) => r,
-        RegType::Perm(slot) => slot,
+impl RegType {
+    // The number of the register or the slot.
+    pub fn number(self) -> u32
+        ensures { result ≡ number_of_place self }
+    {
+        match self {
+            RegType::Temp(r) => r,
+            RegType::Perm(slot) => slot,
+        }
     }
 }
 

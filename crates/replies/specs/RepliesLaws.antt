@@ -1,11 +1,10 @@
 -- Laws of replies: what stands in the lent bytes, for each kind of sheet.
-use Rattle.std.specs.Prelude.{ℕ, ◌+◌, ◌≤◌, ◌≡◌, refl, Bool, List, ◌++◌, length, drop}
+use Rattle.std.specs.Prelude.{ℕ, ◌+◌, ◌≤◌, ◌≡◌, refl, Bool, List, ◌++◌, length, drop, Ok, Err}
 use Rattle.std.proofs.Common.{sym, subst, zero-add, arith, length-append, length-drop, take_all, le-leb}
+use Rattle.refusals.specs.declared.Refusal.{Refusal}
 use Rattle.sizes.specs.Sizes.{sheet_bytes, largest_number}
 use Rattle.printing.specs.Printing.{printed, place_after, Put}
-use Rattle.answered.specs.declared.Answered.{Answered}
-use Rattle.answered.specs.declared.Answered.TheVariants.{Written, Refused}
-use Rattle.answered.specs.Answered.{filled_by, refusal_text}
+use Rattle.answered.specs.Answered.{Answered, refused, filled_by, refusal_text}
 use Rattle.answered.specs.AnsweredLaws.{Within}
 use Rattle.event_sheets.specs.EventSheets as events
 use Rattle.event_sheets.specs.EventSheetsLaws.{answered_within as events-within}
@@ -17,22 +16,22 @@ use Rattle.replies.specs.Replies.{replied, event_reply, bundle_reply, check_repl
 
 -- ---- Each way to print an answer
 
-module _ {a : Answered} {number refusal : ℕ} (e : a ≡ Refused number refusal) where
+module _ {a : Answered} {number : ℕ} {refusal : Refusal} (e : a ≡ refused number refusal) where
   pub refused_printable : Printable a → number ≤ largest_number
   refused_printable p = subst Printable e p
 
   pub refused-told : {out : List ℕ} {next : ℕ} {after : List ℕ} → Put out 0 (refusal_text number refusal) next after → Told a out next after
   refused-told {out} {next} {after} put = subst (λ a. Told a out next after) (sym e) put
 
-pub written-told : {a : Answered} {count : ℕ} → a ≡ Written count → (out : List ℕ) → Told a out count out
+pub written-told : {a : Answered} {count : ℕ} → a ≡ Ok count → (out : List ℕ) → Told a out count out
 written-told {count = count} e out = subst (λ a. Told a out count out) (sym e) (refl, refl)
 
 -- ---- Any answer that stays within its bounds
 
 -- its line's number can be printed
 within_printable : (room : ℕ) (text : List ℕ) (a : Answered) → Within room text (sheet_bytes + 1) a → Printable a
-within_printable room text (Written count) w = tt
-within_printable room text (Refused number refusal) w = omega arith
+within_printable room text (Ok count) w = tt
+within_printable room text (Err told) w = omega arith
 
 -- a text for which there is room, and what lies past it
 put_whole : (out text : List ℕ) → length text ≤ length out → Put out 0 text (length text) (text ++ drop (length text) out)
@@ -49,9 +48,9 @@ put_whole out text h =
 told-put :
     (text out : List ℕ) (lines : ℕ) (a : Answered) → Within (length out) text lines a
     → (next : ℕ) (after : List ℕ) → Told a (filled_by a text out) next after → Put out 0 (replied a text) next after
-told-put text out lines (Written count) w next after told =
+told-put text out lines (Ok count) w next after told =
     rw (told.1, told.0, w.1) (put_whole out text (omega (arith, w.0, w.1)))
-told-put text out lines (Refused number refusal) w next after told = told
+told-put text out lines (Err at) w next after told = told
 
 module _ (text out : List ℕ) (b : Answered) (w : Within (length out) text (sheet_bytes + 1) b) {a : Answered} (e : a ≡ b) where
   answered_printable : Printable a

@@ -20,11 +20,12 @@ fn put_told(answered: Answered, out: &mut [u8]) -> usize
     ensures { Told answered out.old result out.new }
 {
     match answered {
-        Answered::Written(count) => count,
-        Answered::Refused(line, refusal) => answered::put_refusal(out, 0, line as u32, refusal),
+        Ok(count) => count,
+        Err(refused) => answered::put_refusal(out, 0, refused.line as u32, refused.refusal),
     }
 }
 
+// Three functions, since each promises the answer to another kind of sheet.
 // What is printed of an event sheet. The lent bytes are the room of its answer.
 pub fn put_event_reply(sheet: &[u8], out: &mut [u8]) -> usize
     ensures { Put out.old 0 (event_reply sheet.now (length out.old)) result out.new }

@@ -1,8 +1,10 @@
 // The instruction for a variable whose place is known, as an argument or as a subterm.
+//
+// Each function is lent the tables that it looks at and no others, so that its signature says what it leaves alone.
 #![tactic(auto)]
 
 ghost use Rattle.std.specs.Prelude.{◌≡◌};
-ghost use Rattle.evacuation.specs.Evacuation.{sets, evacuation};
+ghost use Rattle.evacuation.specs.Evacuation.{evacuation};
 ghost use Rattle.reserved_var.specs.ReservedVar.{
   safe_step,
   safe_kept,
@@ -26,41 +28,48 @@ use evacuation::Reached;
 use forms::{Branch, GenContext, Level};
 use instructions::Instruction;
 use record_marks::{MarkedSafe, Valued};
-use register_sets::RegisterSets;
+use refusals::Refusal;
 use registers::RegType;
+use restricting_sets::VariableSets;
 use shallow_temp_mappings::Mappings;
-use sizes::VARIABLES;
 use targets::Target;
-use temp_var_data::{UseCounts, UseSets};
-use variable_records::{Records, VarAlloc};
+use variable_records::{Records, VarAlloc, VariableRecord};
+
+// What a line says of a mark of a variable.
+#[derive(Clone, Copy)]
+pub struct Mark {
+    pub target: Target,
+    pub level: Level,
+    pub context: GenContext,
+    pub variable: u32,
+}
 
 // Keeps the record of a variable that has been made safe; the refusal where the original stops.
-fn keep_safe(records: &mut Records, v: u32, safe: MarkedSafe) -> u32
+fn keep_safe(records: &mut Records, v: u32, safe: Option<VariableRecord>) -> Option<Refusal>
     ensures { safe_step records.new result ≡ safe_kept records.old v safe }
 {
     match safe {
-        MarkedSafe::Safe(variable) => {
+        Some(variable) => {
             variable_records::store(records, v, variable);
-            refusals::ACCEPTED
+            None
         }
-        MarkedSafe::FromTemporary => refusals::ACCEPTED,
-        MarkedSafe::Stopped => refusals::UNREACHABLE,
+        None => Some(Refusal::Unreachable),
     }
 }
 
 // The temporary in the argument's register, where there is one, remembers the permanent variable that it is moved to.
-fn remember(records: &mut Records, mappings: &Mappings, k: u32, v: u32) -> u32
+fn remember(records: &mut Records, mappings: &Mappings, k: u32, v: u32) -> Option<Refusal>
     ensures { safe_step records.new result ≡ remembered records.old mappings.now k v }
 {
-    let temporary = shallow_temp_mappings::get(mappings, k);
-    if VARIABLES as u32 <= temporary {
-        return refusals::ACCEPTED;
-    }
+    let Some(temporary) = shallow_temp_mappings::get(mappings, k) else {
+        return None;
+    };
     let variable = variable_records::load(records, temporary);
     keep_safe(records, temporary, record_marks::remember_perm(variable, v))
 }
 
 // A variable that is met for the first time is made safe.
+#[tactic(auto, unfolding(crate::specs::ReservedVar::safe_made))]
 fn mark_safe_var(
     records: &mut Records,
     mappings: &Mappings,
@@ -69,15 +78,14 @@ fn mark_safe_var(
     level: Level,
     context: GenContext,
     branch: Branch,
-) -> u32
+) -> Option<Refusal>
     ensures { safe_step records.new result ≡ safe_made records.old mappings.now k v level context branch }
 {
     let variable = variable_records::load(records, v);
-    let safe = record_marks::mark_safe_var(variable, level, context, branch);
-    match safe {
-        MarkedSafe::FromTemporary => remember(records, mappings, k, v),
-        MarkedSafe::Safe(variable) => keep_safe(records, v, MarkedSafe::Safe(variable)),
-        MarkedSafe::Stopped => refusals::UNREACHABLE,
+    match record_marks::mark_safe_var(variable, level, context, branch) {
+        Some(MarkedSafe::Safe(safe)) => keep_safe(records, v, Some(safe)),
+        Some(MarkedSafe::FromTemporary) => remember(records, mappings, k, v),
+        None => Some(Refusal::Unreachable),
     }
 }
 
@@ -85,12 +93,12 @@ fn mark_safe_var(
 fn instructed(
     counters: Counters,
     code: CodeDeque,
-    refusal: u32,
+    refusal: Option<Refusal>,
     instruction: Instruction,
 ) -> Reached
     ensures { result ≡ instructed_after counters code refusal instruction }
 {
-    if 0 < refusal {
+    if refusal.is_some() {
         return Reached {
             counters,
             code,
@@ -105,20 +113,25 @@ fn keep_value(
     counters: Counters,
     records: &mut Records,
     v: u32,
-    valued: Valued,
+    valued: Option<Valued>,
     code: CodeDeque,
 ) -> Reached
     ensures { step records.new result ≡ value_kept counters records.old v valued code }
 {
     match valued {
-        Valued::Value(variable, instruction) => {
+        Some(
+            Valued {
+                variable,
+                instruction,
+            },
+        ) => {
             variable_records::store(records, v, variable);
-            instructed(counters, code, refusals::ACCEPTED, instruction)
+            instructed(counters, code, None, instruction)
         }
-        Valued::Stopped => Reached {
+        None => Reached {
             counters,
             code,
-            refusal: refusals::UNREACHABLE,
+            refusal: Some(Refusal::Unreachable),
         },
     }
 }
@@ -128,17 +141,20 @@ pub fn put_argument(
     counters: Counters,
     records: &mut Records,
     mappings: &Mappings,
-    target: Target,
-    level: Level,
-    context: GenContext,
-    v: u32,
+    mark: Mark,
     place: RegType,
     is_new: bool,
     branch: Branch,
     code: CodeDeque,
 ) -> Reached
-    ensures { step records.new result ≡ argument_made counters records.old mappings.now target level context v place is_new branch code }
+    ensures { step records.new result ≡ argument_made counters records.old mappings.now mark.target mark.level mark.context mark.variable place is_new branch code }
 {
+    let Mark {
+        target,
+        level,
+        context,
+        variable: v,
+    } = mark;
     let k = counters.arg_c;
     let variable = variable_records::load(records, v);
     if record_marks::in_place(variable, context, place, k) {
@@ -165,55 +181,47 @@ pub fn put_argument(
 }
 
 // Whether a head's temporary is also an argument of the head, in that register.
-fn occurs_shallowly_in_head(
-    records: &Records,
-    use_sets: &UseSets,
-    use_counts: &UseCounts,
-    v: u32,
-    r: u32,
-) -> bool
-    ensures { result ≡ shallow_in_head records.now use_sets.now use_counts.now v r }
+#[tactic(auto, unfolding(crate::specs::ReservedVar::shallow_in_head))]
+fn occurs_shallowly_in_head(records: &Records, sets: &VariableSets, v: u32, r: u32) -> bool
+    ensures { result ≡ shallow_in_head records.now sets.now v r }
 {
     let variable = variable_records::load(records, v);
     let allocation = variable.allocation;
     match allocation {
-        VarAlloc::Temp {
-            term_loc,
-            temp_reg: _,
-            safety: _,
-            to_perm_var_num: _,
-        } => match term_loc {
+        VarAlloc::Temp { term_loc, .. } => match term_loc {
             GenContext::Head => {
-                temp_var_data::contains_use(use_sets, use_counts, v, temp_var_data::head_use(r))
+                temp_var_data::contains_use(
+                    &sets.use_sets,
+                    &sets.use_counts,
+                    v,
+                    temp_var_data::head_use(r),
+                )
             }
-            GenContext::Mid(_) => false,
-            GenContext::Last(_) => false,
+            GenContext::Mid(_) | GenContext::Last(_) => false,
         },
         VarAlloc::Perm(_, _) => false,
     }
 }
 
 // Whether a subterm's variable has been met before: it was marked, or it is an argument of the head too.
+#[tactic(auto, unfolding(crate::specs::ReservedVar::met))]
 fn is_met(
     records: &Records,
-    use_sets: &UseSets,
-    use_counts: &UseCounts,
+    sets: &VariableSets,
     context: GenContext,
     v: u32,
     place: RegType,
     is_new: bool,
 ) -> bool
-    ensures { result ≡ met records.now use_sets.now use_counts.now context v place is_new }
+    ensures { result ≡ met records.now sets.now context v place is_new }
 {
     if !is_new {
         return true;
     }
     match context {
-        GenContext::Mid(_) => false,
-        GenContext::Last(_) => false,
+        GenContext::Mid(_) | GenContext::Last(_) => false,
         GenContext::Head => match place {
-            RegType::Temp(r) => occurs_shallowly_in_head(records, use_sets, use_counts, v, r),
-            RegType::Perm(r) => occurs_shallowly_in_head(records, use_sets, use_counts, v, r),
+            RegType::Temp(r) | RegType::Perm(r) => occurs_shallowly_in_head(records, sets, v, r),
         },
     }
 }
@@ -223,19 +231,22 @@ pub fn put_subterm(
     counters: Counters,
     records: &mut Records,
     mappings: &Mappings,
-    use_sets: &UseSets,
-    use_counts: &UseCounts,
-    target: Target,
-    context: GenContext,
-    v: u32,
+    sets: &VariableSets,
+    mark: Mark,
     place: RegType,
     is_new: bool,
     branch: Branch,
     code: CodeDeque,
 ) -> Reached
-    ensures { step records.new result ≡ subterm_made counters records.old mappings.now use_sets.now use_counts.now target context v place is_new branch code }
+    ensures { step records.new result ≡ subterm_made counters records.old mappings.now sets.now mark.target mark.context mark.variable place is_new branch code }
 {
-    if is_met(records, use_sets, use_counts, context, v, place, is_new) {
+    let Mark {
+        target,
+        context,
+        variable: v,
+        ..
+    } = mark;
+    if is_met(records, sets, context, v, place, is_new) {
         let variable = variable_records::load(records, v);
         let valued = record_marks::subterm_to_value(variable, target, place, branch);
         return keep_value(counters, records, v, valued, code);
@@ -262,38 +273,34 @@ fn empty_argument(
     counters: Counters,
     records: &mut Records,
     mappings: &mut Mappings,
-    use_sets: &UseSets,
-    use_counts: &UseCounts,
-    no_use: &RegisterSets,
-    conflict: &RegisterSets,
+    sets: &VariableSets,
     v: u32,
     chunk: u32,
     code: CodeDeque,
 ) -> Reached
-    ensures { evacuation records.new mappings.new result ≡ others_out counters records.old mappings.old (sets use_sets.now use_counts.now no_use.now conflict.now) v chunk code }
+    ensures { evacuation records.new mappings.new result ≡ others_out counters records.old mappings.old sets.now v chunk code }
 {
-    let mapped = shallow_temp_mappings::get(mappings, counters.arg_c);
-    if VARIABLES as u32 <= mapped {
+    let Some(mapped) = shallow_temp_mappings::get(mappings, counters.arg_c) else {
         return evacuation::going(counters, code);
-    }
+    };
     if mapped == v {
         return evacuation::going(counters, code);
     }
-    evacuation::evacuate_arg(
-        counters, records, mappings, use_sets, use_counts, no_use, conflict, chunk, code,
-    )
+    evacuation::evacuate_arg(counters, records, mappings, sets, chunk, code)
 }
 
 // The next argument's turn, unless the event was refused.
 fn advanced(reached: Reached) -> Reached
     ensures { result ≡ advanced_by reached }
 {
-    if 0 < reached.refusal {
+    if reached.refusal.is_some() {
         return reached;
     }
     let code = reached.code;
-    let mut counters = reached.counters;
-    counters.arg_c = allocator_state::counter_after(counters.arg_c);
+    let counters = Counters {
+        arg_c: allocator_state::counter_after(reached.counters.arg_c),
+        ..reached.counters
+    };
     evacuation::going(counters, code)
 }
 
@@ -302,40 +309,31 @@ pub fn mark_argument(
     counters: Counters,
     records: &mut Records,
     mappings: &mut Mappings,
-    use_sets: &UseSets,
-    use_counts: &UseCounts,
-    no_use: &RegisterSets,
-    conflict: &RegisterSets,
-    target: Target,
-    level: Level,
-    context: GenContext,
-    v: u32,
+    sets: &VariableSets,
+    mark: Mark,
     place: RegType,
     is_new: bool,
     branch: Branch,
     code: CodeDeque,
 ) -> Reached
-    ensures { evacuation records.new mappings.new result ≡ argument_marked counters records.old mappings.old (sets use_sets.now use_counts.now no_use.now conflict.now) target level context v place is_new branch code }
+    ensures { evacuation records.new mappings.new result ≡ argument_marked counters records.old mappings.old sets.now mark.target mark.level mark.context mark.variable place is_new branch code }
 {
     let emptied = empty_argument(
         counters,
         records,
         mappings,
-        use_sets,
-        use_counts,
-        no_use,
-        conflict,
-        v,
-        forms::chunk_num(context),
+        sets,
+        mark.variable,
+        forms::chunk_num(mark.context),
         code,
     );
-    if 0 < emptied.refusal {
+    if emptied.refusal.is_some() {
         return emptied;
     }
     let before = emptied.counters;
     let moved = emptied.code;
     let made = put_argument(
-        before, records, mappings, target, level, context, v, place, is_new, branch, moved,
+        before, records, mappings, mark, place, is_new, branch, moved,
     );
     advanced(made)
 }

@@ -1,11 +1,13 @@
 -- The events that set numbers: rules 14.1 to 14.10.
 use Rattle.std.specs.Prelude.{ℕ, ◌+◌, Bool, false, List, [], ◌∷◌, eqb, leb, length, take, set, replicate}
-use Rattle.std.specs.Prelude.{if◌then◌else◌}
+use Rattle.std.specs.Prelude.{if◌then◌else◌, Option, Some, None}
 use Rattle.sizes.specs.Sizes.{variables, registers, counts, freed_registers}
+use Rattle.refusals.specs.declared.Refusal.{Refusal}
 use Rattle.refusals.specs.Refusals.{accepted, refused_stop, refused_full}
 use Rattle.bit_set.specs.BitSet.{empty_set, inserted, removed}
 use Rattle.registers.specs.declared.RegType.{RegType}
 use Rattle.registers.specs.declared.RegType.TheVariants.{Temp, Perm}
+use Rattle.variable_records.specs.declared.VariableRecord.{VariableRecord}
 use Rattle.variable_records.specs.Records.{place_of, placed_at}
 use Rattle.variable_records.specs.Rows.{record_at, record_put}
 use Rattle.shallow_temp_mappings.specs.Mappings.{unmapped, mapped_with}
@@ -14,8 +16,6 @@ use Rattle.allocator_state.specs.declared.Counters.{Counters}
 use Rattle.allocator_state.specs.State.{counter_after}
 use Rattle.allocator_state.specs.Counters.{with_arg_c, with_temp_lb, with_perm_lb, with_arity, with_in_tail_position, with_freed_registers, with_in_use}
 use Rattle.freeing.specs.Freeing.{Release, release, kept, running_at}
-use Rattle.record_marks.specs.declared.MarkedSafe.{MarkedSafe}
-use Rattle.record_marks.specs.declared.MarkedSafe.TheVariants.{Safe, FromTemporary, Stopped}
 use Rattle.record_marks.specs.RecordMarks.{marked_unconditionally}
 
 -- ---- `args` n, rule 14.2: arguments are marked from 1 on, and registers are searched for from n + 1
@@ -113,12 +113,12 @@ register_freed c list r =
     (set list c.freed_registers r)
     (kept (with_freed_registers (c.freed_registers + 1) (with_in_use (removed c.in_use r) c)))
 
--- ---- `incr` and `safe`: the records, and the refusal, 0 where there is none
+-- ---- `incr` and `safe`: the records, and the refusal, if there is one
 pub record Answer : Type 0 where
   pub records : List ℕ
-  pub refusal : ℕ
+  pub refusal : Option Refusal
 
-abbrev pub answer : List ℕ → ℕ → Answer
+abbrev pub answer : List ℕ → Option Refusal → Answer
 answer records refusal = record { records = records; refusal = refusal }
 
 -- rule 14.3: one more is counted, unless the count is full
@@ -128,10 +128,9 @@ running_incremented records v =
     else answer (record_put records v (running_at (record_at records v) ((record_at records v).running_count + 1))) accepted
 
 -- rules 4.4 and 14.4: of a variable that is Pending it is refused
-abbrev pub safe_marked_as : MarkedSafe → List ℕ → ℕ → Answer
-safe_marked_as (Safe variable) records v = answer (record_put records v variable) accepted
-safe_marked_as FromTemporary records v = answer records refused_stop
-safe_marked_as Stopped records v = answer records refused_stop
+abbrev pub safe_marked_as : Option VariableRecord → List ℕ → ℕ → Answer
+safe_marked_as (Some variable) records v = answer (record_put records v variable) accepted
+safe_marked_as None records v = answer records refused_stop
 
 unfoldable pub safe_marked : List ℕ → List ℕ → ℕ → ℕ → Answer
 safe_marked records rows opened v =

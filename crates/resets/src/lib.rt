@@ -25,9 +25,9 @@ ghost use Rattle.resets.specs.Resets.{
 
 use allocation::TempFreeList;
 use allocator_state::Counters;
-use branch_stack::BranchRows;
+use branch_stack::BranchStack;
 use freeing::Released;
-use record_marks::MarkedSafe;
+use refusals::Refusal;
 use registers::RegType;
 use shallow_temp_mappings::Mappings;
 use sizes::{FREED_REGISTERS, LAST_COUNT, LAST_REGISTER, VARIABLES};
@@ -37,25 +37,23 @@ use variable_records::{Records, VariableRecord};
 pub fn reset_arg(counters: Counters, arity: u32) -> Counters
     ensures { result ≡ arg_reset counters arity }
 {
-    let mut begun = counters;
-    begun.arity = 0;
-    begun.arg_c = 1;
-    begun.temp_lb = allocator_state::counter_after(arity);
-    begun
+    Counters {
+        arity: 0,
+        arg_c: 1,
+        temp_lb: allocator_state::counter_after(arity),
+        ..counters
+    }
 }
 
 // How many arguments a head has; none counts past the last register.
 fn argument_count(arguments: &[u32]) -> usize
     ensures { result ≡ length (head_arguments arguments.now) }
 {
-    let last = LAST_REGISTER as usize;
-    if last < arguments.len() {
-        return last;
-    }
-    arguments.len()
+    arguments.len().min(LAST_REGISTER as usize)
 }
 
 // Whether an argument is a temporary variable that has no register yet.
+#[tactic(auto, unfolding(crate::specs::Resets::awaits_register))]
 fn awaits_register(records: &Records, v: u32) -> bool
     ensures { result ≡ awaits_register records.now v }
 {
@@ -63,8 +61,7 @@ fn awaits_register(records: &Records, v: u32) -> bool
         return false;
     }
     let variable = variable_records::load(records, v);
-    let place = variable.as_reg_type();
-    match place {
+    match variable.as_reg_type() {
         RegType::Temp(r) => r == 0,
         RegType::Perm(_) => false,
     }
@@ -81,12 +78,13 @@ fn place_argument(
     ensures { heading records.new mappings.new result ≡ argument_placed (heading records.old mappings.old counters) k v }
 {
     if awaits_register(records, v) {
-        let mut placed = counters;
-        placed.in_use = bit_set::insert(counters.in_use, k);
         shallow_temp_mappings::insert(mappings, k, v);
         let variable = variable_records::load(records, v);
         variable_records::store(records, v, variable.set_register(k));
-        return placed;
+        return Counters {
+            in_use: bit_set::insert(counters.in_use, k),
+            ..counters
+        };
     }
     counters
 }
@@ -101,12 +99,12 @@ pub fn reset_at_head(
     ensures { heading records.new mappings.new result ≡ head_reset counters records.old mappings.old arguments.now }
 {
     let count = argument_count(arguments);
-    let mut headed = reset_arg(counters, count as u32);
-    headed.arity = count as u32;
-    let mut i = 0;
-    while i < count {
-        headed = place_argument(headed, records, mappings, i as u32 + 1, arguments[i]);
-        i += 1;
+    let mut headed = Counters {
+        arity: count as u32,
+        ..reset_arg(counters, count as u32)
+    };
+    for (i, v) in arguments[..count].iter().enumerate() {
+        headed = place_argument(headed, records, mappings, i as u32 + 1, *v);
     }
     headed
 }
@@ -115,47 +113,54 @@ pub fn reset_at_head(
 pub fn advance_arg(counters: Counters) -> Counters
     ensures { result ≡ arg_advanced counters }
 {
-    let mut advanced = counters;
-    advanced.arg_c = allocator_state::counter_after(counters.arg_c);
-    advanced
+    Counters {
+        arg_c: allocator_state::counter_after(counters.arg_c),
+        ..counters
+    }
 }
 
 // From here on no register is in use, mapped to a variable or freed.
+#[tactic(auto, unfolding(crate::specs::Resets::contents_reset))]
 pub fn reset_contents(counters: Counters, mappings: &mut Mappings) -> Counters
     ensures { clearing mappings.new result ≡ contents_reset counters }
 {
     *mappings = [VARIABLES as u32; LAST_REGISTER as usize + 1];
-    let mut cleared = counters;
-    cleared.in_use = bit_set::empty();
-    cleared.freed_registers = 0;
-    cleared
+    Counters {
+        in_use: bit_set::empty(),
+        freed_registers: 0,
+        ..counters
+    }
 }
 
 // The same, and slots are given out from the first on.
+#[tactic(auto, unfolding(crate::specs::Resets::whole_reset))]
 pub fn reset(counters: Counters, mappings: &mut Mappings) -> Counters
     ensures { clearing mappings.new result ≡ whole_reset counters }
 {
-    let mut cleared = reset_contents(counters, mappings);
-    cleared.perm_lb = 1;
-    cleared
+    Counters {
+        perm_lb: 1,
+        ..reset_contents(counters, mappings)
+    }
 }
 
 // From here on no register is freed.
 pub fn reset_free_list(counters: Counters) -> Counters
     ensures { result ≡ free_list_reset counters }
 {
-    let mut cleared = counters;
-    cleared.freed_registers = 0;
-    cleared
+    Counters {
+        freed_registers: 0,
+        ..counters
+    }
 }
 
 // Sets whether the goal at hand is in the tail position, 1 or 0.
 pub fn set_tail_position(counters: Counters, tail: u32) -> Counters
     ensures { result ≡ tail_set counters tail }
 {
-    let mut set = counters;
-    set.in_tail_position = tail;
-    set
+    Counters {
+        in_tail_position: tail,
+        ..counters
+    }
 }
 
 // Frees a register: it is no longer in use, and joins the list of freed registers, unless that is full.
@@ -166,55 +171,53 @@ pub fn add_reg_to_free_list(counters: Counters, list: &mut TempFreeList, r: u32)
     if FREED_REGISTERS as u32 <= count {
         return Released {
             counters,
-            refusal: refusals::FULL,
+            refusal: Some(Refusal::Full),
         };
     }
-    let mut freed = counters;
-    freed.in_use = bit_set::remove(counters.in_use, r);
     list[count as usize] = r;
-    freed.freed_registers = count + 1;
     Released {
-        counters: freed,
-        refusal: refusals::ACCEPTED,
+        counters: Counters {
+            in_use: bit_set::remove(counters.in_use, r),
+            freed_registers: count + 1,
+            ..counters
+        },
+        refusal: None,
     }
 }
 
 // Counts an occurrence of a variable, unless its count is at its last number.
-pub fn increment_running_count(records: &mut Records, v: u32) -> u32
+pub fn increment_running_count(records: &mut Records, v: u32) -> Option<Refusal>
     ensures { answer records.new result ≡ running_incremented records.old v }
 {
     let variable = variable_records::load(records, v);
     if LAST_COUNT <= variable.running_count {
-        return refusals::FULL;
+        return Some(Refusal::Full);
     }
-    let allocation = variable.allocation;
     let counted = VariableRecord {
-        allocation,
-        num_occurrences: variable.num_occurrences,
         running_count: variable.running_count + 1,
+        ..variable
     };
     variable_records::store(records, v, counted);
-    refusals::ACCEPTED
+    None
 }
 
 // A variable is said to be safe from here on; one that waits for its slot cannot be.
+#[tactic(auto, unfolding(crate::specs::Resets::safe_marked))]
 pub fn mark_safe_var_unconditionally(
     records: &mut Records,
-    rows: &BranchRows,
+    stack: &BranchStack,
     open_branches: u32,
     v: u32,
-) -> u32
-    ensures { answer records.new result ≡ safe_marked records.old rows.now open_branches v }
+) -> Option<Refusal>
+    ensures { answer records.new result ≡ safe_marked records.old stack.now.rows open_branches v }
 {
-    let branch = branch_stack::current_branch_designator(rows, open_branches);
+    let branch = stack.current_branch_designator(open_branches);
     let variable = variable_records::load(records, v);
-    let marked = record_marks::mark_safe_var_unconditionally(variable, branch);
-    match marked {
-        MarkedSafe::Safe(safe) => {
+    match record_marks::mark_safe_var_unconditionally(variable, branch) {
+        Some(safe) => {
             variable_records::store(records, v, safe);
-            refusals::ACCEPTED
+            None
         }
-        MarkedSafe::FromTemporary => refusals::STOP,
-        MarkedSafe::Stopped => refusals::STOP,
+        None => Some(Refusal::Stop),
     }
 }

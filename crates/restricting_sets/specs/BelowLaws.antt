@@ -49,7 +49,7 @@ module _ (test : ℕ → Bool) where
 
 -- ---- A function at each of them
 
-module _ (f : ℕ → ℕ) where
+module _ {A : Type 0} (f : ℕ → A) where
   pub map-length : (n : ℕ) → length (map f (below n)) ≡ n
   map-length n = length-map (below n) f ∙ below_length n
 
@@ -57,11 +57,11 @@ module _ (f : ℕ → ℕ) where
   unfolding below
   map_next n = map-append f (below n) (n ∷ [])
 
-  pub map_at : (n v : ℕ) → v < n → get_or (map f (below n)) v 0 ≡ f v
-  map_at zero v h = absurd (omega arith)
-  map_at (suc n) v h =
+  pub map_at : (n v : ℕ) (default : A) → v < n → get_or (map f (below n)) v default ≡ f v
+  map_at zero v default h = absurd (omega arith)
+  map_at (suc n) v default h =
       rw (map_next n)
       (⊎_elim
-      (λ same. ap (λ (i : ℕ). get_or (map f (below n) ++ (f n ∷ [])) i 0) same ∙ get_or_at (map f (below n)) (f n) [] 0 n (map-length n) ∙ ap f (sym same))
-      (λ less. get_or-append (map f (below n)) (f n ∷ []) 0 v (omega (arith, less, map-length n)) ∙ map_at n v less)
+      (λ same. ap (λ (i : ℕ). get_or (map f (below n) ++ (f n ∷ [])) i default) same ∙ get_or_at (map f (below n)) (f n) [] default n (map-length n) ∙ ap f (sym same))
+      (λ less. get_or-append (map f (below n)) (f n ∷ []) default v (omega (arith, less, map-length n)) ∙ map_at n v default less)
       (eq-or-lt_of_le (let l : v ≤ n = omega arith in l)))

@@ -1,5 +1,5 @@
 -- What `sets` makes of each set, as plain facts.
-use Rattle.std.specs.Prelude.{ℕ, ◌≤◌, ◌<◌, ◌≡◌, refl, true, false, ◌&&◌, ◌||◌, List, [], ◌∷◌, ◌++◌, ◌↔◌, ◌⊎◌, eqb, ltb, length, take, replicate}
+use Rattle.std.specs.Prelude.{ℕ, ◌≤◌, ◌<◌, ◌≡◌, refl, true, false, ◌&&◌, ◌||◌, List, [], ◌∷◌, ◌++◌, ◌↔◌, ◌⊎◌, eqb, ltb, length, take, replicate, Option, Some}
 use Rattle.std.proofs.Common.{sym, ◌∙◌}
 use Rattle.std.proofs.Math.Path.{ap}
 use Rattle.std.proofs.Math.Bool.{not, false≢true}
@@ -20,7 +20,7 @@ use Rattle.restricting_sets.specs.BelowLaws.{any-below_exactly}
 use Rattle.restricting_sets.specs.AnewLaws.{anew_at}
 use Rattle.restricting_sets.specs.StepLaws.{no_use-kept, conflict_kept, conflict_made}
 
-module _ (use_sets use_counts chunks : List ℕ) (v r : ℕ) where
+module _ (use_sets use_counts : List ℕ) (chunks : List (Option ℕ)) (v r : ℕ) where
   -- u comes before v, or v has no use of r
   abbrev pub BeforeOrFree : ℕ → Type 0
   BeforeOrFree u = (u < v) ⊎ ((code : ℕ) → code ∈ uses_of use_sets use_counts v → r ≡ register_of code → ⊥)
@@ -35,16 +35,16 @@ module _ (use_sets use_counts chunks : List ℕ) (v r : ℕ) where
       )
 
   -- u is another temporary, has a use of r in the last goal of v's chunk, and one of these two holds
-  abbrev pub Restricts : ℕ → Type 0
-  Restricts u =
+  abbrev pub Restricts : ℕ → ℕ → Type 0
+  Restricts chunk u =
       (is_temporary chunks u ≡ true) × (u ≡ v → ⊥)
-      × (use_code (last_context (chunk_of chunks v)) r ∈ uses_of use_sets use_counts u)
+      × (use_code (last_context chunk) r ∈ uses_of use_sets use_counts u)
       × BeforeOrFree u
 
-  pub restricts_exactly : (u : ℕ) → (restricts use_sets use_counts chunks u v r ≡ true) ↔ Restricts u
+  pub restricts_exactly : (chunk u : ℕ) → (restricts use_sets use_counts chunks chunk u v r ≡ true) ↔ Restricts chunk u
   unfolding restricts
-  restricts_exactly u =
-      let used = contains_use_exactly (uses_of use_sets use_counts u) (use_code (last_context (chunk_of chunks v)) r) in
+  restricts_exactly chunk u =
+      let used = contains_use_exactly (uses_of use_sets use_counts u) (use_code (last_context chunk) r) in
       let either = before_or_free_exactly u in (
         λ h. (let b = both_true _ (before_or_free use_sets use_counts u v r) h in
             let s = both_true (is_temporary chunks u && not (eqb u v)) _ b.0 in
@@ -54,28 +54,28 @@ module _ (use_sets use_counts chunks : List ℕ) (v r : ℕ) where
       )
 
   module _
-      (no_use : List ℕ) (full : length no_use ≡ variables) (inside : v < variables) (temporary : is_temporary chunks v ≡ true)
+      (no_use : List ℕ) (full : length no_use ≡ variables) (inside : v < variables) (chunk : ℕ) (temporary : chunk_of chunks v ≡ Some chunk)
       (h : r ≤ registers) where
     no_use_test :
         has (set_at (sets_anew (no_use_of use_sets use_counts chunks) no_use) v) r
-        ≡ (has (set_at no_use v) r || any (λ u. restricts use_sets use_counts chunks u v r) (below variables))
+        ≡ (has (set_at no_use v) r || any (λ u. restricts use_sets use_counts chunks chunk u v r) (below variables))
     unfolding no_use_of
     no_use_test = rw (anew_at (no_use_of use_sets use_counts chunks) no_use full v inside) (simp temporary (has-collected _ r h))
 
     -- rule 7.2: v's no_use_lem set has r exactly if it had r before, or there is such a u
     pub no_use_exactly :
         (has (set_at (sets_anew (no_use_of use_sets use_counts chunks) no_use) v) r ≡ true)
-        ↔ ((has (set_at no_use v) r ≡ true) ⊎ ((u : ℕ) × (u < variables) × Restricts u))
+        ↔ ((has (set_at no_use v) r ≡ true) ⊎ ((u : ℕ) × (u < variables) × Restricts chunk u))
     no_use_exactly =
-        let some = any-below_exactly (λ u. restricts use_sets use_counts chunks u v r) variables in
-        let either = either_exactly (has (set_at no_use v) r) (any (λ u. restricts use_sets use_counts chunks u v r) (below variables)) in (
-          λ e. ⊎_map (λ was. was) (λ a. (let s = some.0 a in (s.0, s.1, (restricts_exactly s.0).0 s.2))) (either.0 (sym no_use_test ∙ e)),
-          λ e. no_use_test ∙ either.1 (⊎_map (λ was. was) (λ s. some.1 (s.0, s.1, (restricts_exactly s.0).1 s.2)) e),
+        let some = any-below_exactly (λ u. restricts use_sets use_counts chunks chunk u v r) variables in
+        let either = either_exactly (has (set_at no_use v) r) (any (λ u. restricts use_sets use_counts chunks chunk u v r) (below variables)) in (
+          λ e. ⊎_map (λ was. was) (λ a. (let s = some.0 a in (s.0, s.1, (restricts_exactly chunk s.0).0 s.2))) (either.0 (sym no_use_test ∙ e)),
+          λ e. no_use_test ∙ either.1 (⊎_map (λ was. was) (λ s. some.1 (s.0, s.1, (restricts_exactly chunk s.0).1 s.2)) e),
         )
 
 -- ---- The other sets
 
-module _ (use_sets use_counts chunks : List ℕ) (v : ℕ) (inside : v < variables) where
+module _ (use_sets use_counts : List ℕ) (chunks : List (Option ℕ)) (v : ℕ) (inside : v < variables) where
   -- rule 7.3: a temporary's conflict set is made anew
   pub conflict_anew :
       (conflict : List ℕ) → length conflict ≡ variables → is_temporary chunks v ≡ true
@@ -99,7 +99,7 @@ abbrev row : List ℕ
 row = use_code (last_context 1) 2 ∷ replicate 15 0
 
 pub no_use_of-sheet_2 :
-    take 2 (sets_anew (no_use_of (row ++ row) (1 ∷ 1 ∷ []) (1 ∷ 1 ∷ [])) (empty_set ∷ empty_set ∷ []))
+    take 2 (sets_anew (no_use_of (row ++ row) (1 ∷ 1 ∷ []) (Some 1 ∷ Some 1 ∷ [])) (empty_set ∷ empty_set ∷ []))
     ≡ empty_set ∷ inserted empty_set 2 ∷ []
 unfolding sets_anew set_at set_put below no_use_of restricts is_temporary chunk_of before_or_free uses_of uses_register contains_use any collected collected_below inserted has
 no_use_of-sheet_2 = refl

@@ -1,25 +1,23 @@
 -- The steps of `sets`: after one use, after the uses of a variable, after those of all.
-use Prim.Native.Nat.{ℕ, suc, ◌-◌, ◌^◌, ◌≤◌, ◌<◌}
-use Rattle.std.specs.Prelude.{◌≡◌, refl, Bool, true, false, not, ◌&&◌, ◌||◌, List, eqb, ltb, length}
+use Prim.Native.Nat.{ℕ, suc, ◌≤◌, ◌<◌}
+use Rattle.std.specs.Prelude.{◌≡◌, refl, Bool, true, false, not, ◌&&◌, ◌||◌, List, eqb, ltb, length, Option, Some, None, is_some}
 use Rattle.std.proofs.Math.Path.{sym, ap}
 use Rattle.std.proofs.Common.{◌∙◌, arith}
+use Rattle.std.proofs.lemmas.Bool.{false≢true}
 use Rattle.std.proofs.Math.Bool.{and-true, and-false, or_assoc, or-false}
-use Rattle.std.specs.Int.Bits.{bit_and}
-use Rattle.std.proofs.lemmas.Nat.{and_le_l}
 use Rattle.std.proofs.Math.ListN.{get_or}
 use borrow.Author.Tests.{eq-eqb, ne_eqb, eqb-true, eqb-false, lt-ltb, le-ltb}
 use Rattle.std.specs.Prelude.{if◌then◌else◌}
 use Rattle.sizes.specs.Sizes.{variables, registers}
-use Rattle.bit_set.specs.BitSet.{Set, members, has, inserted, union}
-use Rattle.bit_set.specs.DigitLaws.{has-and, has_complement}
+use Rattle.bit_set.specs.BitSet.{Set, has, inserted, union}
 use Rattle.bit_set.specs.BitSetLaws.{has-union, set-union}
-use Rattle.bit_set.specs.Collected.{collected}
-use Rattle.bit_set.specs.CollectedLaws.{set-collected, has-collected, collected-is, collected-same}
+use Rattle.bit_set.specs.Collected.{collected, less}
+use Rattle.bit_set.specs.CollectedLaws.{has-collected, collected-is, collected-same, set-less, has-less}
 use Rattle.temp_var_data.specs.Lists.{any}
 use Rattle.temp_var_data.specs.Uses.{last_context, use_code, register_of, uses_of, uses_register, contains_use, conflict_of}
 use Rattle.temp_var_data.specs.UsesLaws.{register_of_use}
 use Rattle.temp_var_data.specs.GivenLaws.{given_first, given_next, given_all}
-use Rattle.restricting_sets.specs.Restricting.{below, chunk_of, is_temporary, before_or_free, restricts, no_use_of, conflict_at}
+use Rattle.restricting_sets.specs.Restricting.{below, chunk_of, is_temporary, before_or_free, restricts, no_use_in, no_use_of, conflict_at}
 use Rattle.restricting_sets.specs.BelowLaws.{any-below-next}
 
 -- a set to which nothing comes
@@ -77,16 +75,6 @@ with_all use_set chunk i h = given_all (is_in (last_context chunk)) use_set i h
 
 -- ---- What they keep from v
 
--- the members of s that are none of t
-unfoldable pub less : ℕ → ℕ → ℕ
-less s t = collected (λ r. has s r && not (has t r))
-
-pub less_masked : (s t : ℕ) → Set s → Set t → bit_and s (2 ^ members - 1 - t) ≡ less s t
-unfolding less
-less_masked s t hs ht =
-    collected-is _ _ (omega (arith, and_le_l s (2 ^ members - 1 - t)))
-    (λ r h. has-and s (2 ^ members - 1 - t) r ∙ ap (λ (b : Bool). has s r && b) (has_complement members t r (omega arith) ht))
-
 module _ (no_use_set last own u v : ℕ) where
   -- u ≠ v has the uses `last`, v those of `own`
   unfoldable pub with_last : ℕ
@@ -104,74 +92,79 @@ module _ (no_use_set last own u v : ℕ) where
         (λ r k. has-union no_use_set last r ∙ simp (ne_eqb u v other, lt-ltb u v h, and-true))
 
     pub with_later : (u ≡ v → ⊥) → v ≤ u → union no_use_set (less last own) ≡ with_last
-    unfolding with_last less
+    unfolding with_last
     with_later other h =
-        collected-is _ _ (set-union no_use_set (less last own) s (set-collected _))
+        collected-is _ _ (set-union no_use_set (less last own) s (set-less last own))
         (λ r k. has-union no_use_set (less last own) r
-        ∙ ap (λ (b : Bool). has no_use_set r || b) (has-collected _ r k)
+        ∙ ap (λ (b : Bool). has no_use_set r || b) (has-less last own r k)
         ∙ simp (ne_eqb u v other, le-ltb u v h))
 
-module _ (use_sets use_counts chunks : List ℕ) (v : ℕ) where
-  -- ---- The uses of the variables below n
+module _ (use_sets use_counts : List ℕ) (chunks : List (Option ℕ)) (v : ℕ) where
+  -- ---- The uses of the variables below n, in the last goal of a chunk
 
-  unfoldable pub with_below : ℕ → ℕ → ℕ
-  with_below no_use_set n = collected (λ r. has no_use_set r || any (λ u. restricts use_sets use_counts chunks u v r) (below n))
+  module _ (chunk : ℕ) where
+    unfoldable pub with_below : ℕ → ℕ → ℕ
+    with_below no_use_set n = collected (λ r. has no_use_set r || any (λ u. restricts use_sets use_counts chunks chunk u v r) (below n))
 
-  pub below_none : (no_use_set : ℕ) → Set no_use_set → no_use_set ≡ with_below no_use_set 0
-  unfolding with_below any below
-  below_none no_use_set s = nothing_more_lem no_use_set _ s (λ r. refl)
+    pub below_none : (no_use_set : ℕ) → Set no_use_set → no_use_set ≡ with_below no_use_set 0
+    unfolding with_below any below
+    below_none no_use_set s = nothing_more_lem no_use_set _ s (λ r. refl)
 
-  abbrev last : ℕ → ℕ
-  last u = last_uses (uses_of use_sets use_counts u) (chunk_of chunks v)
+    abbrev last : ℕ → ℕ
+    last u = last_uses (uses_of use_sets use_counts u) chunk
 
-  has_last :
-      (u r : ℕ) → r ≤ registers
-      → has (last u) r ≡ contains_use (uses_of use_sets use_counts u) (use_code (last_context (chunk_of chunks v)) r)
-  unfolding last_uses
-  has_last u r h = has-collected _ r h
+    has_last :
+        (u r : ℕ) → r ≤ registers
+        → has (last u) r ≡ contains_use (uses_of use_sets use_counts u) (use_code (last_context chunk) r)
+    unfolding last_uses
+    has_last u r h = has-collected _ r h
 
-  abbrev own : ℕ
-  own = collected (uses_register (uses_of use_sets use_counts v))
+    abbrev own : ℕ
+    own = collected (uses_register (uses_of use_sets use_counts v))
 
-  module _ (no_use_set n before : ℕ) (e : before ≡ with_below no_use_set n) where
-    abbrev others : ℕ → Bool
-    others r = any (λ u. restricts use_sets use_counts chunks u v r) (below n)
+    module _ (no_use_set n before : ℕ) (e : before ≡ with_below no_use_set n) where
+      abbrev others : ℕ → Bool
+      others r = any (λ u. restricts use_sets use_counts chunks chunk u v r) (below n)
 
-    has-before : (r : ℕ) → r ≤ registers → has before r ≡ (has no_use_set r || others r)
-    unfolding with_below
-    has-before r h = ap (λ (s : ℕ). has s r) e ∙ has-collected _ r h
+      has-before : (r : ℕ) → r ≤ registers → has before r ≡ (has no_use_set r || others r)
+      unfolding with_below
+      has-before r h = ap (λ (s : ℕ). has s r) e ∙ has-collected _ r h
 
-    one_more :
-        (r : ℕ)
-        → (has no_use_set r || any (λ u. restricts use_sets use_counts chunks u v r) (below (suc n)))
-        ≡ (has no_use_set r || others r || restricts use_sets use_counts chunks n v r)
-    one_more r =
-        rw (any-below-next (λ u. restricts use_sets use_counts chunks u v r) n)
-        (sym (or_assoc (has no_use_set r) (others r) (restricts use_sets use_counts chunks n v r)))
+      one_more :
+          (r : ℕ)
+          → (has no_use_set r || any (λ u. restricts use_sets use_counts chunks chunk u v r) (below (suc n)))
+          ≡ (has no_use_set r || others r || restricts use_sets use_counts chunks chunk n v r)
+      one_more r =
+          rw (any-below-next (λ u. restricts use_sets use_counts chunks chunk u v r) n)
+          (sym (or_assoc (has no_use_set r) (others r) (restricts use_sets use_counts chunks chunk n v r)))
 
-    pub below_permanent : is_temporary chunks n ≡ false → before ≡ with_below no_use_set (suc n)
-    unfolding with_below restricts
-    below_permanent permanent =
-        e ∙ collected-same _ _ (λ r h. sym (one_more r ∙ simp (permanent, or-false)))
+      pub below_permanent : is_temporary chunks n ≡ false → before ≡ with_below no_use_set (suc n)
+      unfolding with_below restricts
+      below_permanent permanent =
+          e ∙ collected-same _ _ (λ r h. sym (one_more r ∙ simp (permanent, or-false)))
 
-    pub below-temporary : is_temporary chunks n ≡ true → with_last before (last n) own n v ≡ with_below no_use_set (suc n)
-    unfolding with_last with_below restricts before_or_free
-    below-temporary temporary =
-        collected-same _ _
-        (λ r h. rw (has-before r h, has_last n r h, has-collected (uses_register (uses_of use_sets use_counts v)) r h)
-        (sym (one_more r ∙ simp temporary)))
+      pub below-temporary : is_temporary chunks n ≡ true → with_last before (last n) own n v ≡ with_below no_use_set (suc n)
+      unfolding with_last with_below restricts before_or_free
+      below-temporary temporary =
+          collected-same _ _
+          (λ r h. rw (has-before r h, has_last n r h, has-collected (uses_register (uses_of use_sets use_counts v)) r h)
+          (sym (one_more r ∙ simp temporary)))
 
-  pub below_all :
-      (no_use_set n : ℕ) → n ≡ variables → is_temporary chunks v ≡ true
-      → with_below no_use_set n ≡ no_use_of use_sets use_counts chunks no_use_set v
-  unfolding with_below no_use_of
-  below_all no_use_set n all e = ap (with_below no_use_set) all ∙ simp e
+    pub below_all :
+        (no_use_set n : ℕ) → n ≡ variables → chunk_of chunks v ≡ Some chunk
+        → with_below no_use_set n ≡ no_use_of use_sets use_counts chunks no_use_set v
+    unfolding with_below no_use_of
+    below_all no_use_set n all e = ap (with_below no_use_set) all ∙ simp e
 
   -- ---- Whether v is a temporary at all
 
   pub no_use-kept : (no_use_set : ℕ) → is_temporary chunks v ≡ false → no_use_of use_sets use_counts chunks no_use_set v ≡ no_use_set
-  unfolding no_use_of
-  no_use-kept no_use_set e = simp e
+  unfolding no_use_of is_temporary
+  no_use-kept no_use_set =
+      elim (chunk_of chunks v) as (λ o. is_some o ≡ false → no_use_in use_sets use_counts chunks o no_use_set v ≡ no_use_set) [
+        | None ↦ λ e. refl
+        | Some chunk ↦ λ e. absurd (false≢true (sym e))
+      ]
 
   pub conflict_kept :
       (conflict_set : ℕ) → is_temporary chunks v ≡ false → conflict_at use_sets use_counts chunks conflict_set v ≡ conflict_set

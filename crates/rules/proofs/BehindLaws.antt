@@ -1,5 +1,5 @@
 -- Laws of the instructions that a mark's steps make: each step puts its own behind those that were there, and leaves none out.
-use Rattle.std.specs.Prelude.{ℕ, ◌+◌, ◌≤◌, ◌<◌, ◌≡◌, Bool, true, false, ◌⊎◌, eqb, leb, ltb}
+use Rattle.std.specs.Prelude.{ℕ, ◌+◌, ◌≤◌, ◌<◌, ◌≡◌, Bool, true, false, ◌⊎◌, eqb, leb, Option, Some, None}
 use Rattle.std.proofs.Math.Path.{refl, ap}
 use Rattle.std.proofs.Common.{sym, ◌∙◌, inl, inr, arith, length-append}
 use mathlib.Core.List.{List, [], ◌∷◌, ◌++◌, append-nil, append_assoc}
@@ -25,24 +25,24 @@ use Rattle.forms.specs.Forms.{chunk_num}
 use Rattle.variable_records.specs.Rows.{record_at}
 use Rattle.shallow_temp_mappings.specs.Mappings.{mapped_at}
 use Rattle.allocator_state.specs.declared.Counters.{Counters}
-use Rattle.choice.specs.declared.Chosen.{Chosen}
-use Rattle.choice.specs.declared.Chosen.TheVariants.{Register, NoRegister}
 use Rattle.evacuation.specs.declared.Hint.{Hint}
 use Rattle.evacuation.specs.declared.Hint.TheVariants.{Stays, Moves, NoRegister as Nowhere}
 use Rattle.evacuation.specs.declared.Reached.{Reached}
-use Rattle.evacuation.specs.Evacuation.{Sets, Evacuation, hint, moved_to, evacuated_by, evacuated, alloc_with_cr, alloc_with_ca, going_on}
+use Rattle.restricting_sets.specs.declared.VariableSets.{VariableSets}
+use Rattle.evacuation.specs.Evacuation.{Evacuation, hint, moved_to, evacuated_by, evacuated, alloc_with_cr, alloc_with_ca, going_on}
 use Rattle.record_marks.specs.declared.Valued.{Valued}
-use Rattle.record_marks.specs.declared.Valued.TheVariants.{Value, Stopped}
 use Rattle.record_marks.specs.RecordMarks.{in_place, argument_value, subterm_value}
 use Rattle.reserved_var.specs.ReservedVar.{safe_made, instructed_after, value_kept, argument_made, met, subterm_made}
 use Rattle.reserved_var.specs.ReservedVar.{others_out, advanced_by, marked_after, argument_marked}
 use Rattle.marks.specs.Marks.{RegisterPlacement, chosen_or_refused, alloc_apart, after_evacuation, alloc_shallow, register_placed}
-use Rattle.mark_var.specs.declared.Mark.{Mark}
+use Rattle.reserved_var.specs.declared.Mark.{Mark}
 use Rattle.mark_var.specs.MarkVar.{instructed_at}
 use Rattle.rules.specs.StepsLaws.{either_way}
 use Rattle.rules.specs.InstructionsMade.{unless_after, move_makes, evacuation_makes, placing_makes, others_make, value_makes, argument_makes, subterm_makes}
 use Rattle.rules.specs.InstructionsMade.{after_makes, argument_mark_makes, level_makes}
 use Rattle.rules.specs.MadeLaws.{made, pushed-below_three, Behind, BehindReached, BehindStep, BehindEvacuation, Alike}
+use Rattle.refusals.specs.Refusals.{is_refused}
+use Rattle.refusals.specs.declared.Refusal.{Refusal}
 
 pub none-behind : (code : CodeDeque) → Behind code [] code
 none-behind code = sym (append-nil (code_list code))
@@ -78,7 +78,7 @@ move_short Stays c = omega arith
 move_short Nowhere c = omega arith
 move_short (Moves v r) c = either_way (λ (l : List Instruction). length l ≤ 1) (eqb r c.arg_c) (omega arith) (omega arith)
 
-module _ (c : Counters) (records mappings : List ℕ) (s : Sets) where
+module _ (c : Counters) (records mappings : List ℕ) (s : VariableSets) where
   -- an evacuation makes nothing, or one get_variable
   pub evacuation-one :
       (chunk : ℕ)
@@ -117,21 +117,21 @@ module _ (c : Counters) (records mappings : List ℕ) (s : Sets) where
 
 -- ---- A register for a new temporary
 
-chosen-code : (reached : Reached) (choice : Chosen) → (chosen_or_refused reached choice).reached.code ≡ reached.code
-chosen-code reached (Register r) = refl
-chosen-code reached NoRegister = refl
+chosen-code : (reached : Reached) (choice : Option ℕ) → (chosen_or_refused reached choice).reached.code ≡ reached.code
+chosen-code reached (Some r) = refl
+chosen-code reached None = refl
 
-module _ (s : Sets) (v : ℕ) where
+module _ (s : VariableSets) (v : ℕ) where
   apart_code : (c : Counters) (code : CodeDeque) → (alloc_apart c s v code).reached.code ≡ code
   unfolding alloc_apart
-  apart_code c code = chosen-code (going_on c code) (alloc_with_ca c s.use_sets s.use_counts s.no_use s.conflict v)
+  apart_code c code = chosen-code (going_on c code) (alloc_with_ca c s v)
 
   after_evacuation-code : (e : Evacuation) → (after_evacuation e s v).placed.reached.code ≡ e.reached.code
   unfolding after_evacuation
   after_evacuation-code e =
-      either_way (λ (p : RegisterPlacement). p.placed.reached.code ≡ e.reached.code) (ltb 0 e.reached.refusal)
+      either_way (λ (p : RegisterPlacement). p.placed.reached.code ≡ e.reached.code) (is_refused e.reached.refusal)
       refl
-      (chosen-code e.reached (alloc_with_cr e.reached.counters s.use_sets s.use_counts s.no_use v))
+      (chosen-code e.reached (alloc_with_cr e.reached.counters s v))
 
   module _ (c : Counters) (records mappings : List ℕ) (code : CodeDeque) (room : made code < 3) where
     apart_behind : Behind code [] (alloc_apart c s v code).reached.code
@@ -158,14 +158,14 @@ module _ (s : Sets) (v : ℕ) where
 
 module _ (code : CodeDeque) (room : made code < 3) (c : Counters) where
   instructed-behind :
-      (refusal : ℕ) (i : Instruction) → BehindReached code (instructed_after c code refusal i) (unless_after refusal (i ∷ []))
+      (refusal : Option Refusal) (i : Instruction) → BehindReached code (instructed_after c code refusal i) (unless_after refusal (i ∷ []))
   unfolding instructed_after
-  instructed-behind refusal i = both_ways (BehindReached code) (ltb 0 refusal) (none-behind code) (pushed-below_three code i room)
+  instructed-behind refusal i = both_ways (BehindReached code) (is_refused refusal) (none-behind code) (pushed-below_three code i room)
 
   module _ (records : List ℕ) (v : ℕ) where
-    value-behind : (valued : Valued) → BehindStep code (value_kept c records v valued code) (value_makes valued)
-    value-behind (Value variable i) = instructed-behind accepted i
-    value-behind Stopped = none-behind code
+    value-behind : (valued : Option Valued) → BehindStep code (value_kept c records v valued code) (value_makes valued)
+    value-behind (Some valued) = instructed-behind accepted valued.instruction
+    value-behind None = none-behind code
 
     module _ (mappings : List ℕ) (target : Target) (context : GenContext) (place : RegType) (is_new : Bool) (branch : Branch) where
       argument_behind :
@@ -181,13 +181,13 @@ module _ (code : CodeDeque) (room : made code < 3) (c : Counters) where
           (value-behind (argument_value (record_at records v) target place c.arg_c c.in_tail_position branch)))
 
       subterm_behind :
-          (s : Sets)
+          (s : VariableSets)
           → BehindStep code
-          (subterm_made c records mappings s.use_sets s.use_counts target context v place is_new branch code)
+          (subterm_made c records mappings s target context v place is_new branch code)
           (subterm_makes c records mappings s target context v place is_new branch)
       unfolding subterm_made subterm_makes
       subterm_behind s =
-          both_ways (BehindStep code) (met records s.use_sets s.use_counts context v place is_new)
+          both_ways (BehindStep code) (met records s context v place is_new)
           (value-behind (subterm_value (record_at records v) target place branch))
           (instructed-behind (safe_made records mappings c.arg_c v Deep context branch).refusal (subterm_to_variable target place))
 
@@ -195,9 +195,9 @@ module _ (code : CodeDeque) (room : made code < 3) (c : Counters) where
 
 pub advanced-code : (reached : Reached) → (advanced_by reached).code ≡ reached.code
 unfolding advanced_by
-advanced-code reached = either_way (λ (r : Reached). r.code ≡ reached.code) (ltb 0 reached.refusal) refl refl
+advanced-code reached = either_way (λ (r : Reached). r.code ≡ reached.code) (is_refused reached.refusal) refl refl
 
-module _ (c : Counters) (records mappings : List ℕ) (s : Sets) (v chunk : ℕ) where
+module _ (c : Counters) (records mappings : List ℕ) (s : VariableSets) (v chunk : ℕ) where
   others_short : length (others_make c records mappings s v chunk) ≤ 1
   unfolding others_make
   others_short =
@@ -245,7 +245,7 @@ module _ (target : Target) (level : Level) (context : GenContext) (v : ℕ) (pla
       (after_makes e target level context v place is_new branch)
   unfolding marked_after after_makes
   after-behind e room =
-      both_ways (BehindEvacuation e.reached.code) (ltb 0 e.reached.refusal) (none-behind e.reached.code)
+      both_ways (BehindEvacuation e.reached.code) (is_refused e.reached.refusal) (none-behind e.reached.code)
       (ap code_list (advanced-code _)
       ∙ argument_behind e.reached.code room e.reached.counters e.records v e.mappings target context place is_new branch level)
 
@@ -255,7 +255,7 @@ module _ (target : Target) (level : Level) (context : GenContext) (v : ℕ) (pla
   unfolding after_makes
   after_alike e f same = simp (same.0, same.1, same.2, same.3)
 
-module _ (c : Counters) (records mappings : List ℕ) (s : Sets) (mark : Mark) (place : RegType) (is_new : Bool) (branch : Branch) where
+module _ (c : Counters) (records mappings : List ℕ) (s : VariableSets) (mark : Mark) (place : RegType) (is_new : Bool) (branch : Branch) where
   module _ (code : CodeDeque) (room : made code ≤ 1) where
     argument_marked-behind :
         (level : Level)

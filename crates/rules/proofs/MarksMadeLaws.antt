@@ -1,5 +1,5 @@
 -- Laws of the instructions that whole marks make: a mark begins with none, and puts each of its own behind the others.
-use Rattle.std.specs.Prelude.{ℕ, ◌≤◌, ◌<◌, ◌≡◌, Bool, eqb, ltb, length}
+use Rattle.std.specs.Prelude.{Option, Some, None, ℕ, ◌≤◌, ◌<◌, ◌≡◌, Bool, eqb, length}
 use Rattle.std.proofs.Math.Path.{refl, ap}
 use Rattle.std.proofs.Common.{◌∙◌, arith}
 use Rattle.std.proofs.Math.Bool.{true, false}
@@ -25,14 +25,13 @@ use Rattle.variable_records.specs.declared.VariableRecord.{VariableRecord}
 use Rattle.variable_records.specs.Rows.{record_at}
 use Rattle.branch_stack.specs.BranchStack.{current_branch}
 use Rattle.allocator_state.specs.declared.Counters.{Counters}
-use Rattle.choice.specs.declared.Chosen.{Chosen}
-use Rattle.choice.specs.declared.Chosen.TheVariants.{Register, NoRegister}
 use Rattle.evacuation.specs.declared.Reached.{Reached}
-use Rattle.evacuation.specs.Evacuation.{Sets, Evacuation, going_on}
+use Rattle.restricting_sets.specs.declared.VariableSets.{VariableSets}
+use Rattle.evacuation.specs.Evacuation.{Evacuation, going_on}
 use Rattle.allocation.specs.Allocation.{Placement, non_var, slot_given, perm_placed}
 use Rattle.marks.specs.declared.Marked.{Marked}
 use Rattle.marks.specs.Marks.{RegisterPlacement, register_placed}
-use Rattle.mark_var.specs.declared.Mark.{Mark}
+use Rattle.reserved_var.specs.declared.Mark.{Mark}
 use Rattle.mark_var.specs.MarkVar.{Noted, noted, Marking, finished_after, finished, instructed_for, reserved_after, reserved_marked}
 use Rattle.mark_var.specs.MarkVar.{VarMark, marked_at, new_temporary_after, new_temporary_marked, new_slot_after, new_slot_marked, slot_marked}
 use Rattle.mark_var.specs.MarkVar.{temporary_marked, permanent_marked, marked_by, var_marked}
@@ -45,6 +44,7 @@ use Rattle.rules.specs.InstructionsMade.{variable_makes, var_makes, turn_makes, 
 use Rattle.rules.specs.MadeLaws.{made, pushed-below_three, Behind}
 use Rattle.rules.proofs.BehindLaws.{none-behind, behind-both, made-behind, both_ways, advanced-code}
 use Rattle.rules.proofs.BehindLaws.{evacuation_short, evacuated-behind, register-behind, level-behind}
+use Rattle.refusals.specs.Refusals.{is_refused}
 
 -- ---- A variable whose place is known
 
@@ -54,7 +54,7 @@ finished_after-code :
     → (finished_after n c records list v context place code).reached.code ≡ code
 unfolding finished_after
 finished_after-code n c records list v context place code =
-    either_way (λ (m : Marking). m.reached.code ≡ code) (ltb 0 n.refusal) refl refl
+    either_way (λ (m : Marking). m.reached.code ≡ code) (is_refused n.refusal) refl refl
 
 module _ (list rows branch_sets : List ℕ) (mark : Mark) where
   finished-code :
@@ -70,7 +70,7 @@ module _ (list rows branch_sets : List ℕ) (mark : Mark) where
       → (reserved_after e list rows branch_sets mark place is_new).reached.code ≡ e.reached.code
   unfolding reserved_after
   reserved_code e place is_new =
-      either_way (λ (m : Marking). m.reached.code ≡ e.reached.code) (ltb 0 e.reached.refusal) refl
+      either_way (λ (m : Marking). m.reached.code ≡ e.reached.code) (is_refused e.reached.refusal) refl
       (finished-code e.reached.counters e.records e.mappings place is_new e.reached.code)
 
 -- ---- A variable
@@ -79,7 +79,7 @@ abbrev BehindVar : CodeDeque → VarMark → List Instruction → Type 0
 BehindVar code m instructions = Behind code instructions m.marked.reached.code
 
 placing_short :
-    (c : Counters) (records mappings : List ℕ) (s : Sets) (level : Level) (context : GenContext)
+    (c : Counters) (records mappings : List ℕ) (s : VariableSets) (level : Level) (context : GenContext)
     → length (placing_makes c records mappings s level context) ≤ 1
 placing_short c records mappings s Root context = omega arith
 placing_short c records mappings s Deep context = omega arith
@@ -89,7 +89,7 @@ placing_short c records mappings s Shallow (Last chunk) = evacuation_short c rec
 
 -- one evacuation at most before a new temporary's register is chosen
 pub register-made :
-    (c : Counters) (records mappings : List ℕ) (s : Sets) (v : ℕ) (level : Level) (context : GenContext)
+    (c : Counters) (records mappings : List ℕ) (s : VariableSets) (v : ℕ) (level : Level) (context : GenContext)
     → made (register_placed c records mappings s v level context Empty).placed.reached.code ≤ 1
 register-made c records mappings s v level context =
     omega (
@@ -98,7 +98,7 @@ register-made c records mappings s v level context =
       placing_short c records mappings s level context,
     )
 
-module _ (s : Sets) (list rows branch_sets : List ℕ) (mark : Mark) where
+module _ (s : VariableSets) (list rows branch_sets : List ℕ) (mark : Mark) where
   known_behind :
       (c : Counters) (records mappings : List ℕ) (place : RegType) (is_new : Bool) (code : CodeDeque) → made code ≤ 1
       → BehindVar code
@@ -114,7 +114,7 @@ module _ (s : Sets) (list rows branch_sets : List ℕ) (mark : Mark) where
       → BehindVar p.placed.reached.code (new_temporary_after p s list rows branch_sets mark) (register_makes p s rows mark)
   unfolding new_temporary_after register_makes
   register_mark_behind p room =
-      both_ways (BehindVar p.placed.reached.code) (ltb 0 p.placed.reached.refusal) (none-behind p.placed.reached.code)
+      both_ways (BehindVar p.placed.reached.code) (is_refused p.placed.reached.refusal) (none-behind p.placed.reached.code)
       (known_behind p.placed.reached.counters p.records p.mappings (TempRegister p.placed.place) true p.placed.reached.code room)
 
   new_slot-behind :
@@ -122,7 +122,7 @@ module _ (s : Sets) (list rows branch_sets : List ℕ) (mark : Mark) where
       → BehindVar Empty (new_slot_after p mappings s list rows branch_sets mark) (new_slot_makes p mappings s rows mark)
   unfolding new_slot_after new_slot_makes
   new_slot-behind p mappings =
-      both_ways (BehindVar Empty) (ltb 0 p.placed.refusal) refl
+      both_ways (BehindVar Empty) (is_refused p.placed.refusal) refl
       (known_behind p.placed.counters p.records mappings (PermSlot p.placed.place) true Empty (omega arith))
 
   module _ (c : Counters) (records mappings : List ℕ) where
@@ -178,13 +178,13 @@ instructed_at-behind :
     → BehindMarked reached.code (instructed_at reached i place) (unless_after reached.refusal (i ∷ []))
 unfolding instructed_at
 instructed_at-behind reached i place room =
-    both_ways (BehindMarked reached.code) (ltb 0 reached.refusal) (none-behind reached.code) (pushed-below_three reached.code i room)
+    both_ways (BehindMarked reached.code) (is_refused reached.refusal) (none-behind reached.code) (pushed-below_three reached.code i room)
 
 term_at_code : (reached : Reached) (place : RegType) → (term_at reached place).reached.code ≡ reached.code
 unfolding term_at
-term_at_code reached place = either_way (λ (m : Marked). m.reached.code ≡ reached.code) (ltb 0 reached.refusal) refl refl
+term_at_code reached place = either_way (λ (m : Marked). m.reached.code ≡ reached.code) (is_refused reached.refusal) refl refl
 
-module _ (c : Counters) (records mappings : List ℕ) (s : Sets) where
+module _ (c : Counters) (records mappings : List ℕ) (s : VariableSets) where
   emptied_behind : (context : GenContext) → Behind Empty (turn_makes c records mappings s context) (emptied_in context c records mappings s).reached.code
   emptied_behind Head = refl
   emptied_behind (Mid chunk) = refl
@@ -220,11 +220,11 @@ module _ (c : Counters) (records mappings : List ℕ) (s : Sets) where
       (instructed_at-behind (going_on c Empty) (subterm_to_variable target place) place (omega arith))
 
   anon_chosen-behind :
-      (choice : Chosen) (target : Target) (level : Level) (context : GenContext)
+      (choice : Option ℕ) (target : Target) (level : Level) (context : GenContext)
       → code_list (anon_chosen choice c records mappings s target level context).marked.reached.code
       ≡ anon_chosen_makes c records mappings s choice target level context
-  anon_chosen-behind NoRegister target level context = refl
-  anon_chosen-behind (Register r) target level context = anon_placed-behind target level context (TempRegister r)
+  anon_chosen-behind None target level context = refl
+  anon_chosen-behind (Some r) target level context = anon_placed-behind target level context (TempRegister r)
 
   non_var_argument-behind :
       (context : GenContext)
@@ -234,7 +234,7 @@ module _ (c : Counters) (records mappings : List ℕ) (s : Sets) where
       ap code_list (term_at_code (turn_taken c records mappings s context).reached (TempRegister c.arg_c)) ∙ turn_behind context
 
 pub anon_made :
-    (c : Counters) (records mappings : List ℕ) (s : Sets) (list : List ℕ) (target : Target) (level : Level) (context : GenContext)
+    (c : Counters) (records mappings : List ℕ) (s : VariableSets) (list : List ℕ) (target : Target) (level : Level) (context : GenContext)
     → code_list (anon_marked c records mappings s list target level context).marked.reached.code
     ≡ anon_makes c records mappings s list target level context
 unfolding anon_marked anon_makes
@@ -244,16 +244,16 @@ anon_made c records mappings s list target level context =
 abbrev NoneMade : Marked → Type 0
 NoneMade m = m.reached.code ≡ Empty
 
-term_chosen-none : (choice : Chosen) (c : Counters) → NoneMade (term_chosen choice c)
-term_chosen-none NoRegister c = refl
-term_chosen-none (Register r) c = refl
+term_chosen-none : (choice : Option ℕ) (c : Counters) → NoneMade (term_chosen choice c)
+term_chosen-none None c = refl
+term_chosen-none (Some r) c = refl
 
 cell-none : (c : Counters) (list : List ℕ) (cell : ℕ) → NoneMade (cell_marked c list cell)
 unfolding cell_marked term_marked
 cell-none c list cell = either_way NoneMade (eqb cell 0) (term_chosen-none (non_var c list).chosen (non_var c list).counters) refl
 
 pub non_var-made :
-    (c : Counters) (records mappings : List ℕ) (s : Sets) (list : List ℕ) (level : Level) (context : GenContext) (cell : ℕ)
+    (c : Counters) (records mappings : List ℕ) (s : VariableSets) (list : List ℕ) (level : Level) (context : GenContext) (cell : ℕ)
     → code_list (non_var_marked c records mappings s list level context cell).marked.reached.code
     ≡ non_var_makes c records mappings s level context
 unfolding non_var_marked
@@ -268,13 +268,13 @@ NoneCut m = NoneMade m.marked
 
 slot_cut-none : (p : Placement) → NoneCut (slot_cut_by p)
 unfolding slot_cut_by
-slot_cut-none p = either_way NoneCut (ltb 0 p.placed.refusal) refl refl
+slot_cut-none p = either_way NoneCut (is_refused p.placed.refusal) refl refl
 
 register_cut-none :
-    (choice : Chosen) (c : Counters) (records : List ℕ) (v : ℕ) (variable : VariableRecord) (context : GenContext) (to_perm : ℕ)
+    (choice : Option ℕ) (c : Counters) (records : List ℕ) (v : ℕ) (variable : VariableRecord) (context : GenContext) (to_perm : ℕ)
     → NoneCut (register_cut_by choice c records v variable context to_perm)
-register_cut-none NoRegister c records v variable context to_perm = refl
-register_cut-none (Register r) c records v variable context to_perm = refl
+register_cut-none None c records v variable context to_perm = refl
+register_cut-none (Some r) c records v variable context to_perm = refl
 
 module _ (c : Counters) (records perm_list list : List ℕ) (v chunk : ℕ) where
   cut_as-none : (allocation : VarAlloc) → NoneCut (cut_as allocation c records perm_list list v chunk)

@@ -12,22 +12,21 @@ use Rattle.forms.specs.declared.GenContext.{GenContext}
 use Rattle.forms.specs.declared.Level.{Level}
 use Rattle.forms.specs.Forms.{chunk_num}
 use Rattle.allocator_state.specs.declared.Counters.{Counters}
-use Rattle.evacuation.specs.Evacuation.{Sets, evacuated}
+use Rattle.restricting_sets.specs.declared.VariableSets.{VariableSets}
+use Rattle.evacuation.specs.Evacuation.{evacuated}
 use Rattle.reserved_var.specs.ReservedVar.{others_out}
 use Rattle.marks.specs.Marks.{register_placed}
 use Rattle.events.specs.declared.Event.{Event}
 use Rattle.events.specs.declared.Event.TheVariants.{Temp, Perm, Sets as PopulateSets, Head, Args, Var, Anon, NonVar, Cut, Incr, Free, Safe, Give, Tail, Next, Open, Arm, Take, Close, Reset, Contents, ClearFree}
-use Rattle.events.specs.Events.{is_record}
 use Rattle.debray_allocator.specs.declared.State.{State}
-use Rattle.debray_allocator.specs.declared.Acted.{Acted}
 use Rattle.debray_allocator.specs.declared.Answer.{Answer}
-use Rattle.debray_allocator.specs.DebrayAllocator.{sets_of, carried_out, acted_of, seen_after, stepped}
-use Rattle.rules.specs.StepsLaws.{either_way}
+use Rattle.debray_allocator.specs.DebrayAllocator.{carried_out, stepped}
 use Rattle.rules.specs.LineLaws.{stepped_carries}
 use Rattle.rules.specs.InstructionsMade.{evacuation_makes, event_makes}
 use Rattle.rules.specs.MadeLaws.{made}
 use Rattle.rules.proofs.BehindLaws.{evacuation-one, evacuated-behind, evacuated-made, others-made}
 use Rattle.rules.proofs.MarksMadeLaws.{register-made, var_made, anon_made, non_var-made, cut_made}
+use Rattle.std.specs.Prelude.{None}
 
 code_short : (code : CodeDeque) → made code ≤ 3
 code_short Empty = omega arith
@@ -47,7 +46,7 @@ none_or_one before instructions behind k (inl none) =
 none_or_one before instructions behind k (inr (r, one)) =
     inr (r, behind ∙ ap (λ (l : List Instruction). before ++ l) one)
 
-module _ (c : Counters) (records mappings : List ℕ) (s : Sets) where
+module _ (c : Counters) (records mappings : List ℕ) (s : VariableSets) where
   -- an evacuation makes nothing, or one get_variable
   pub evacuated_makes_one :
       (chunk : ℕ) (code : CodeDeque) → made code < 3
@@ -85,10 +84,6 @@ module _ (c : Counters) (records mappings : List ℕ) (s : Sets) where
 
 -- ---- A whole line
 
-seen-code : (a : Acted) (event : Event) → (seen_after a event).code ≡ a.code
-unfolding seen_after
-seen-code a event = either_way (λ (b : Acted). b.code ≡ a.code) (is_record event) refl refl
-
 module _ (s : State) where
   -- what the event makes, all of it and in order
   pub nothing_left_out : (event : Event) (list : List ℕ) → code_list (carried_out s event list).code ≡ event_makes s event
@@ -98,13 +93,13 @@ module _ (s : State) where
   nothing_left_out Head list = refl
   nothing_left_out (Args count) list = refl
   nothing_left_out (Var target level context v) list =
-      var_made (sets_of s) s.freed_slots s.branch_rows s.branch_sets
+      var_made s.sets s.freed_slots s.branches.rows s.branches.sets
       (record { target = target; level = level; context = context; variable = v })
       s.counters s.records s.mappings
   nothing_left_out (Anon target level context) list =
-      anon_made s.counters s.records s.mappings (sets_of s) s.freed_registers target level context
+      anon_made s.counters s.records s.mappings s.sets s.freed_registers target level context
   nothing_left_out (NonVar level context cell) list =
-      non_var-made s.counters s.records s.mappings (sets_of s) s.freed_registers level context cell
+      non_var-made s.counters s.records s.mappings s.sets s.freed_registers level context cell
   nothing_left_out (Cut v chunk) list =
       ap code_list (cut_made s.counters s.records s.freed_slots s.freed_registers v chunk)
   nothing_left_out (Incr v) list = refl
@@ -122,11 +117,10 @@ module _ (s : State) where
   nothing_left_out ClearFree list = refl
 
   pub line-has_all :
-      (event : Event) (list : List ℕ) → (stepped s event list).refusal ≡ 0
+      (event : Event) (list : List ℕ) → (stepped s event list).refusal ≡ None
       → code_list (stepped s event list).code ≡ event_makes s event
   line-has_all event list accepted =
       ap (λ (a : Answer). code_list a.code) (stepped_carries s event list accepted).0
-      ∙ ap code_list (seen-code (acted_of (carried_out s event list)) event)
       ∙ nothing_left_out event list
 
   -- rule 16.2: an event makes three at most

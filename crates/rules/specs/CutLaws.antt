@@ -1,5 +1,5 @@
 -- Laws of a cut's mark, rule 13.6: it counts nothing and frees nothing.
-use Rattle.std.specs.Prelude.{ℕ, ◌*◌, ◌≤◌, ◌<◌, true, List, eqb, ltb, length}
+use Rattle.std.specs.Prelude.{Option, Some, None, ℕ, ◌*◌, ◌≤◌, ◌<◌, true, List, eqb, ltb, length}
 use Rattle.std.proofs.Math.Path.{◌≡◌, refl}
 use Rattle.std.proofs.Common.{ap, ◌∙◌}
 use Rattle.std.proofs.lemmas.Bool.{false≢true}
@@ -13,22 +13,22 @@ use Rattle.variable_records.specs.Records.{allocated, placed_alloc, placed_at}
 use Rattle.variable_records.specs.Rows.{row_cells, record_at, record_put, temporary, is_temporary}
 use Rattle.variable_records.specs.TableLaws.{record_put-length}
 use Rattle.perm_free_list.specs.declared.Looked.{Looked}
+use Rattle.perm_free_list.specs.declared.Taken.{Taken}
 use Rattle.allocator_state.specs.declared.Counters.{Counters}
-use Rattle.choice.specs.declared.Chosen.{Chosen}
-use Rattle.choice.specs.declared.Chosen.TheVariants.{Register, NoRegister}
 use Rattle.choice.specs.Choice.{least_outside}
-use Rattle.allocation.specs.Allocation.{Placement, without_front, slot_given, slot_taken, new_slot, slot_found, perm_placed}
+use Rattle.allocation.specs.Allocation.{Placement, without_front, slot_given, slot_taken, new_slot, slot_placed, slot_found, perm_placed}
 use Rattle.allocation.specs.Allocation.{popped, searched, non_var_by, non_var}
 use Rattle.other_marks.specs.OtherMarks.{CutOf, slot_cut_by, slot_cut, register_cut_by, register_cut, cut_as, cut_marked}
 use Rattle.rules.specs.CountsLaws.{CountsKept, counts_same, counts_anew, put_cases}
 use Rattle.rules.specs.StepsLaws.{either_way, slot_keeps}
+use Rattle.refusals.specs.Refusals.{is_refused}
 
 -- ---- Counts
 
 module _ (records : List ℕ) (size : length records ≡ variables * row_cells) (v : ℕ) (inside : v < variables) where
   slot_cut_keeps : (p : Placement) → CountsKept records p.records → CountsKept records (slot_cut_by p).records
   unfolding slot_cut_by
-  slot_cut_keeps p kept = either_way (λ (m : CutOf). CountsKept records m.records) (ltb 0 p.placed.refusal) kept kept
+  slot_cut_keeps p kept = either_way (λ (m : CutOf). CountsKept records m.records) (is_refused p.placed.refusal) kept kept
 
   cut_as_keeps :
       (allocation : VarAlloc) → (record_at records v).allocation ≡ allocation
@@ -43,8 +43,8 @@ module _ (records : List ℕ) (size : length records ≡ variables * row_cells) 
       let same = counts_same records size in
       either_way (λ (m : CutOf). CountsKept records m.records) (eqb register 0)
       (elim (non_var c list).chosen as (λ chosen. CountsKept records (register_cut_by chosen (non_var c list).counters records v (record_at records v) context to_perm).records) [
-        | Register r ↦ counts_anew same v _ e refl
-        | NoRegister ↦ same
+        | Some r ↦ counts_anew same v _ e refl
+        | None ↦ same
       ])
       same
 
@@ -59,9 +59,9 @@ abbrev NoMore : Counters → Counters → Type 0
 NoMore c after = after.freed_slots ≤ c.freed_slots
 
 module _ (c : Counters) where
-  non_var-adds : (chosen : Chosen) (left : ℕ) → NoMore c (non_var_by c left chosen).counters
-  non_var-adds (Register r) left = omega arith
-  non_var-adds NoRegister left = elim (least_outside c) as (λ found. NoMore c (searched c found).counters) [ Register r ↦ omega arith | NoRegister ↦ omega arith ]
+  non_var-adds : (chosen : Option ℕ) (left : ℕ) → NoMore c (non_var_by c left chosen).counters
+  non_var-adds (Some r) left = omega arith
+  non_var-adds None left = elim (least_outside c) as (λ found. NoMore c (searched c found).counters) [ Some r ↦ omega arith | None ↦ omega arith ]
 
   non_var-no_more : (list : List ℕ) → NoMore c (non_var c list).counters
   unfolding non_var
@@ -72,15 +72,21 @@ module _ (c : Counters) where
   new_slot-no_more k less records v =
       either_way (λ (p : Placement). NoMore c p.placed.counters) (ltb registers k.perm_lb) less less
 
+  placed_no_more :
+      (taken : Option Taken) (k : Counters) → NoMore c k → (records : List ℕ) (v : ℕ)
+      → NoMore c (slot_placed taken k records v).placed.counters
+  placed_no_more (Some taken) k less records v = less
+  placed_no_more None k less records v = new_slot-no_more k less records v
+
   found_no_more : (found : Looked) (records : List ℕ) (v : ℕ) → NoMore c (slot_found found c records v).placed.counters
   unfolding slot_found
   found_no_more found records v =
       let less : NoMore c (without_front c found.dropped) = omega arith in
-      either_way (λ (p : Placement). NoMore c p.placed.counters) (ltb 0 found.slot) less (new_slot-no_more (without_front c found.dropped) less records v)
+      placed_no_more found.taken (without_front c found.dropped) less records v
 
   slot_cut-no_more : (p : Placement) → NoMore c p.placed.counters → NoMore c (slot_cut_by p).marked.reached.counters
   unfolding slot_cut_by
-  slot_cut-no_more p less = either_way (λ (m : CutOf). NoMore c m.marked.reached.counters) (ltb 0 p.placed.refusal) less less
+  slot_cut-no_more p less = either_way (λ (m : CutOf). NoMore c m.marked.reached.counters) (is_refused p.placed.refusal) less less
 
   cut_as-no_more :
       (allocation : VarAlloc) (records perm_list list : List ℕ) (v chunk : ℕ)
@@ -94,8 +100,8 @@ module _ (c : Counters) where
       either_way (λ (m : CutOf). NoMore c m.marked.reached.counters) (eqb register 0)
       (elim (non_var c list).chosen as
       (λ chosen. NoMore c (register_cut_by chosen (non_var c list).counters records v (record_at records v) context to_perm).marked.reached.counters) [
-        | Register r ↦ non_var-no_more list
-        | NoRegister ↦ non_var-no_more list
+        | Some r ↦ non_var-no_more list
+        | None ↦ non_var-no_more list
       ])
       (omega arith)
 
@@ -161,23 +167,26 @@ module _ (records : List ℕ) (size : length records ≡ variables * row_cells) 
   unfolding slot_taken
   taken_size owner = record_put-length records owner (placed_at (record_at records owner) 0) ∙ size
 
-  found_pending : (found : Looked) (c : Counters) → NonePending records (slot_found found c records v).records
-  unfolding slot_found slot_given
-  found_pending found c =
-      either_way (λ (p : Placement). NonePending records p.records) (ltb 0 found.slot)
-      (put-pending
+  placed-pending : (taken : Option Taken) (c : Counters) → NonePending records (slot_placed taken c records v).records
+  unfolding slot_given
+  placed-pending (Some taken) c =
+      put-pending
       records
-      (slot_taken records found.owner)
-      (taken_size found.owner)
-      (taken-pending found.owner)
+      (slot_taken records taken.owner)
+      (taken_size taken.owner)
+      (taken-pending taken.owner)
       v
       _
-      (given_pending (record_at (slot_taken records found.owner) v).allocation found.slot))
-      (new_slot-pending (without_front c found.dropped))
+      (given_pending (record_at (slot_taken records taken.owner) v).allocation taken.slot)
+  placed-pending None c = new_slot-pending c
+
+  found_pending : (found : Looked) (c : Counters) → NonePending records (slot_found found c records v).records
+  unfolding slot_found
+  found_pending found c = placed-pending found.taken (without_front c found.dropped)
 
   slot_cut-pending : (p : Placement) → NonePending records p.records → NonePending records (slot_cut_by p).records
   unfolding slot_cut_by
-  slot_cut-pending p none = either_way (λ (m : CutOf). NonePending records m.records) (ltb 0 p.placed.refusal) none none
+  slot_cut-pending p none = either_way (λ (m : CutOf). NonePending records m.records) (is_refused p.placed.refusal) none none
 
   temporary-pending : (old : VarAlloc) (new : VarAlloc) → temporary new ≡ true → PendingBefore old new
   unfolding temporary
@@ -196,8 +205,8 @@ module _ (records : List ℕ) (size : length records ≡ variables * row_cells) 
       either_way (λ (m : CutOf). NonePending records m.records) (eqb register 0)
       (elim (non_var c list).chosen as
       (λ chosen. NonePending records (register_cut_by chosen (non_var c list).counters records v (record_at records v) context to_perm).records) [
-        | Register r ↦ put-pending records records size unpended v _ (temporary-pending (record_at records v).allocation _ refl)
-        | NoRegister ↦ unpended
+        | Some r ↦ put-pending records records size unpended v _ (temporary-pending (record_at records v).allocation _ refl)
+        | None ↦ unpended
       ])
       unpended
 

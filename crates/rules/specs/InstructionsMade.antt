@@ -1,5 +1,5 @@
 -- The instructions that an event makes, as a list of any length: what each of its steps makes, in order.
-use Rattle.std.specs.Prelude.{ℕ, Bool, true, false, List, [], ◌∷◌, ◌++◌, eqb, leb, ltb}
+use Rattle.std.specs.Prelude.{ℕ, Bool, true, false, List, [], ◌∷◌, ◌++◌, eqb, leb, Option, Some, None}
 use Rattle.std.specs.Prelude.{if◌then◌else◌}
 use Rattle.sizes.specs.Sizes.{variables}
 use Rattle.registers.specs.declared.RegType.{RegType}
@@ -23,27 +23,26 @@ use Rattle.variable_records.specs.Rows.{record_at}
 use Rattle.shallow_temp_mappings.specs.Mappings.{mapped_at}
 use Rattle.branch_stack.specs.BranchStack.{current_branch}
 use Rattle.allocator_state.specs.declared.Counters.{Counters}
-use Rattle.choice.specs.declared.Chosen.{Chosen}
-use Rattle.choice.specs.declared.Chosen.TheVariants.{Register, NoRegister}
 use Rattle.evacuation.specs.declared.Hint.{Hint}
 use Rattle.evacuation.specs.declared.Hint.TheVariants.{Stays, Moves, NoRegister as Nowhere}
-use Rattle.evacuation.specs.Evacuation.{Sets, Evacuation, hint}
+use Rattle.restricting_sets.specs.declared.VariableSets.{VariableSets}
+use Rattle.evacuation.specs.Evacuation.{Evacuation, hint}
 use Rattle.allocation.specs.Allocation.{Placement, non_var, slot_given, perm_placed}
 use Rattle.record_marks.specs.declared.Valued.{Valued}
-use Rattle.record_marks.specs.declared.Valued.TheVariants.{Value, Stopped}
 use Rattle.record_marks.specs.RecordMarks.{in_place, argument_value, subterm_value}
 use Rattle.reserved_var.specs.ReservedVar.{safe_made, met, others_out}
 use Rattle.marks.specs.Marks.{RegisterPlacement, register_placed}
-use Rattle.mark_var.specs.declared.Mark.{Mark}
+use Rattle.reserved_var.specs.declared.Mark.{Mark}
 use Rattle.other_marks.specs.OtherMarks.{turn_taken, is_argument}
 use Rattle.events.specs.declared.Event.{Event}
 use Rattle.events.specs.declared.Event.TheVariants.{Temp, Perm, Sets as PopulateSets, Head, Args, Var, Anon, NonVar, Cut, Incr, Free, Safe, Give, Tail, Next, Open, Arm, Take, Close, Reset, Contents, ClearFree}
 use Rattle.debray_allocator.specs.declared.State.{State}
-use Rattle.debray_allocator.specs.DebrayAllocator.{sets_of}
+use Rattle.refusals.specs.Refusals.{is_refused}
+use Rattle.refusals.specs.declared.Refusal.{Refusal}
 
 -- nothing after a refusal
-abbrev pub unless_after : ℕ → List Instruction → List Instruction
-unless_after refusal instructions = if ltb 0 refusal then [] else instructions
+abbrev pub unless_after : Option Refusal → List Instruction → List Instruction
+unless_after refusal instructions = if is_refused refusal then [] else instructions
 
 -- ---- Evacuation
 
@@ -53,11 +52,11 @@ move_makes Stays c = []
 move_makes Nowhere c = []
 move_makes (Moves v r) c = if eqb r c.arg_c then [] else GetVariable (TempRegister r) c.arg_c ∷ []
 
-unfoldable pub evacuation_makes : Counters → List ℕ → List ℕ → Sets → ℕ → List Instruction
+unfoldable pub evacuation_makes : Counters → List ℕ → List ℕ → VariableSets → ℕ → List Instruction
 evacuation_makes c records mappings s chunk = move_makes (hint c records mappings s chunk) c
 
 -- a register for a new temporary
-abbrev pub placing_makes : Counters → List ℕ → List ℕ → Sets → Level → GenContext → List Instruction
+abbrev pub placing_makes : Counters → List ℕ → List ℕ → VariableSets → Level → GenContext → List Instruction
 placing_makes c records mappings s Root context = []
 placing_makes c records mappings s Deep context = []
 placing_makes c records mappings s Shallow (Mid chunk) = []
@@ -65,7 +64,7 @@ placing_makes c records mappings s Shallow InHead = evacuation_makes c records m
 placing_makes c records mappings s Shallow (Last chunk) = evacuation_makes c records mappings s chunk
 
 -- another variable than v in the argument's register
-unfoldable pub others_make : Counters → List ℕ → List ℕ → Sets → ℕ → ℕ → List Instruction
+unfoldable pub others_make : Counters → List ℕ → List ℕ → VariableSets → ℕ → ℕ → List Instruction
 others_make c records mappings s v chunk =
     if leb variables (mapped_at mappings c.arg_c) then []
     else if eqb (mapped_at mappings c.arg_c) v then []
@@ -73,9 +72,9 @@ others_make c records mappings s v chunk =
 
 -- ---- A variable's own instruction
 
-abbrev pub value_makes : Valued → List Instruction
-value_makes (Value variable instruction) = instruction ∷ []
-value_makes Stopped = []
+abbrev pub value_makes : Option Valued → List Instruction
+value_makes (Some valued) = valued.instruction ∷ []
+value_makes None = []
 
 unfoldable pub argument_makes :
     Counters → List ℕ → List ℕ → Target → Level → GenContext → ℕ → RegType → Bool → Branch → List Instruction
@@ -88,9 +87,9 @@ argument_makes c records mappings target level context v place is_new branch =
     else value_makes (argument_value (record_at records v) target place c.arg_c c.in_tail_position branch)
 
 unfoldable pub subterm_makes :
-    Counters → List ℕ → List ℕ → Sets → Target → GenContext → ℕ → RegType → Bool → Branch → List Instruction
+    Counters → List ℕ → List ℕ → VariableSets → Target → GenContext → ℕ → RegType → Bool → Branch → List Instruction
 subterm_makes c records mappings s target context v place is_new branch =
-    if met records s.use_sets s.use_counts context v place is_new then
+    if met records s context v place is_new then
     value_makes (subterm_value (record_at records v) target place branch)
     else
     unless_after
@@ -106,7 +105,7 @@ after_makes e target level context v place is_new branch =
     e.reached.refusal
     (argument_makes e.reached.counters e.records e.mappings target level context v place is_new branch)
 
-module _ (c : Counters) (records mappings : List ℕ) (s : Sets) (mark : Mark) where
+module _ (c : Counters) (records mappings : List ℕ) (s : VariableSets) (mark : Mark) where
   -- the evacuation, then the argument
   unfoldable pub argument_mark_makes : Level → RegType → Bool → Branch → List Instruction
   argument_mark_makes level place is_new branch =
@@ -132,20 +131,20 @@ module _ (c : Counters) (records mappings : List ℕ) (s : Sets) (mark : Mark) w
   known_makes rows place is_new = level_makes mark.level place is_new (current_branch rows c.open_branches)
 
 -- a new temporary, with its register p
-unfoldable pub register_makes : RegisterPlacement → Sets → List ℕ → Mark → List Instruction
+unfoldable pub register_makes : RegisterPlacement → VariableSets → List ℕ → Mark → List Instruction
 register_makes p s rows mark =
     unless_after
     p.placed.reached.refusal
     (known_makes p.placed.reached.counters p.records p.mappings s mark rows (TempRegister p.placed.place) true)
 
 -- a new permanent variable, with its slot p
-unfoldable pub new_slot_makes : Placement → List ℕ → Sets → List ℕ → Mark → List Instruction
+unfoldable pub new_slot_makes : Placement → List ℕ → VariableSets → List ℕ → Mark → List Instruction
 new_slot_makes p mappings s rows mark =
     unless_after
     p.placed.refusal
     (known_makes p.placed.counters p.records mappings s mark rows (PermSlot p.placed.place) true)
 
-module _ (c : Counters) (records mappings : List ℕ) (s : Sets) (rows : List ℕ) (mark : Mark) where
+module _ (c : Counters) (records mappings : List ℕ) (s : VariableSets) (rows : List ℕ) (mark : Mark) where
   -- the evacuation for its register, then the variable
   unfoldable pub new_temporary_makes : List Instruction
   new_temporary_makes =
@@ -169,7 +168,7 @@ module _ (c : Counters) (records mappings : List ℕ) (s : Sets) (rows : List �
 
 -- ---- What is no ordinary occurrence of a variable
 
-module _ (c : Counters) (records mappings : List ℕ) (s : Sets) where
+module _ (c : Counters) (records mappings : List ℕ) (s : VariableSets) where
   -- an argument's turn evacuates only in `l`
   abbrev pub turn_makes : GenContext → List Instruction
   turn_makes InHead = []
@@ -185,16 +184,16 @@ module _ (c : Counters) (records mappings : List ℕ) (s : Sets) where
       (argument_to_variable target place c.arg_c ∷ [])
       else subterm_to_variable target place ∷ []
 
-  abbrev pub anon_chosen_makes : Chosen → Target → Level → GenContext → List Instruction
-  anon_chosen_makes NoRegister target level context = []
-  anon_chosen_makes (Register r) target level context = anon_placed_makes target level context (TempRegister r)
+  abbrev pub anon_chosen_makes : Option ℕ → Target → Level → GenContext → List Instruction
+  anon_chosen_makes None target level context = []
+  anon_chosen_makes (Some r) target level context = anon_placed_makes target level context (TempRegister r)
 
   abbrev pub non_var_makes : Level → GenContext → List Instruction
   non_var_makes Root context = []
   non_var_makes Deep context = []
   non_var_makes Shallow context = turn_makes context
 
-unfoldable pub anon_makes : Counters → List ℕ → List ℕ → Sets → List ℕ → Target → Level → GenContext → List Instruction
+unfoldable pub anon_makes : Counters → List ℕ → List ℕ → VariableSets → List ℕ → Target → Level → GenContext → List Instruction
 anon_makes c records mappings s list target level context =
     anon_chosen_makes (non_var c list).counters records mappings s (non_var c list).chosen target level context
 
@@ -208,9 +207,9 @@ module _ (s : State) where
   event_makes PopulateSets = []
   event_makes Head = []
   event_makes (Args count) = []
-  event_makes (Var target level context v) = var_makes s.counters s.records s.mappings (sets_of s) s.branch_rows (record { target = target; level = level; context = context; variable = v }) s.freed_slots
-  event_makes (Anon target level context) = anon_makes s.counters s.records s.mappings (sets_of s) s.freed_registers target level context
-  event_makes (NonVar level context cell) = non_var_makes s.counters s.records s.mappings (sets_of s) level context
+  event_makes (Var target level context v) = var_makes s.counters s.records s.mappings s.sets s.branches.rows (record { target = target; level = level; context = context; variable = v }) s.freed_slots
+  event_makes (Anon target level context) = anon_makes s.counters s.records s.mappings s.sets s.freed_registers target level context
+  event_makes (NonVar level context cell) = non_var_makes s.counters s.records s.mappings s.sets level context
   event_makes (Cut v chunk) = []
   event_makes (Incr v) = []
   event_makes (Free chunk v) = []

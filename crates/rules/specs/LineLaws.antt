@@ -1,5 +1,5 @@
 -- Laws of a line that is not refused: it is carried out, and only what was seen is noted besides.
-use Rattle.std.specs.Prelude.{ℕ, ◌+◌, ◌*◌, ◌≤◌, ◌<◌, ◌≡◌, true, false, ltb, length}
+use Rattle.std.specs.Prelude.{ℕ, ◌+◌, ◌*◌, ◌≤◌, ◌<◌, ◌≡◌, true, false, length, Some}
 use Rattle.std.proofs.Math.Path.{refl, sym, ap}
 use Rattle.std.proofs.Common.{◌∙◌}
 use mathlib.Core.List.{List, [], ◌∷◌, ◌++◌}
@@ -22,34 +22,31 @@ use Rattle.freeing.specs.Freeing.{ReleaseOf}
 use Rattle.mark_var.specs.MarkVar.{VarMark, settled, var_marked}
 use Rattle.events.specs.declared.Event.{Event}
 use Rattle.events.specs.declared.Event.TheVariants.{Var}
-use Rattle.events.specs.Events.{is_record, refusal_before}
+use Rattle.events.specs.Events.{refusal_before}
 use Rattle.debray_allocator.specs.declared.State.{State}
-use Rattle.debray_allocator.specs.declared.Acted.{Acted}
-use Rattle.debray_allocator.specs.declared.At.TheVariants.{Place}
 use Rattle.debray_allocator.specs.declared.Answer.{Answer}
-use Rattle.debray_allocator.specs.DebrayAllocator.{sets_of, carried_out, acted_of, seen_after, seen_in, refused_with, acted, unless_refused, stepped}
+use Rattle.debray_allocator.specs.DebrayAllocator.{carried_out, seen_after, seen_in, refused_with, acted, unless_refused, stepped}
 use Rattle.rules.specs.CountsLaws.{CountsKept, counts_same}
 use Rattle.rules.specs.StepsLaws.{either_way}
 use Rattle.rules.specs.MarkLaws.{Settles, unrefused, var_mark_settles}
 use Rattle.rules.specs.SettledLaws.{settled-in_use, settled-counts, settled_leaves, settled-pending, settled_joins, permanent_record, temporary_record}
+use Rattle.refusals.specs.Refusals.{is_refused}
+use Rattle.refusals.specs.declared.Refusal.{Refusal}
+use Rattle.std.specs.Prelude.{Option, None}
 
 module _ (s : State) (event : Event) (list : List ℕ) where
-  seen_refusal : (a : Acted) → (seen_after a event).refusal ≡ a.refusal
-  unfolding seen_after
-  seen_refusal a = either_way (λ (b : Acted). b.refusal ≡ a.refusal) (is_record event) refl refl
-
   -- carried out, and not refused
   abbrev Carried : Answer → Type 0
-  Carried a = (a ≡ seen_in (carried_out s event list) event) × ((carried_out s event list).refusal ≡ 0)
+  Carried a = (a ≡ seen_in (carried_out s event list) event) × ((carried_out s event list).refusal ≡ None)
 
-  acted_carries : (acted s event list).refusal ≡ 0 → Carried (acted s event list)
+  acted_carries : (acted s event list).refusal ≡ None → Carried (acted s event list)
   unfolding acted refused_with
   acted_carries =
       unrefused Carried (λ (a : Answer). a.refusal) (refusal_before s.counters event list) _ _
       refl
-      (λ e. (refl, sym (seen_refusal (acted_of (carried_out s event list))) ∙ e))
+      (λ e. (refl, e))
 
-  pub stepped_carries : (stepped s event list).refusal ≡ 0 → Carried (stepped s event list)
+  pub stepped_carries : (stepped s event list).refusal ≡ None → Carried (stepped s event list)
   unfolding stepped unless_refused refused_with
   stepped_carries =
       unrefused Carried (λ (a : Answer). a.refusal) (acted s event list).refusal _ _
@@ -58,13 +55,13 @@ module _ (s : State) (event : Event) (list : List ℕ) where
 
   -- what holds of a refused line, and of one that is carried out, holds of the line
   pub line-either_way :
-      (P : Answer → Type 0) → ((refusal : ℕ) → P (refused_with s refusal)) → P (seen_in (carried_out s event list) event)
+      (P : Answer → Type 0) → ((refusal : Option Refusal) → P (refused_with s refusal)) → P (seen_in (carried_out s event list) event)
       → P (stepped s event list)
   unfolding stepped unless_refused acted
   line-either_way P refused carried =
-      either_way P (ltb 0 (acted s event list).refusal)
+      either_way P (is_refused (acted s event list).refusal)
       (refused (acted s event list).refusal)
-      (either_way P (ltb 0 (refusal_before s.counters event list)) (refused (refusal_before s.counters event list)) carried)
+      (either_way P (is_refused (refusal_before s.counters event list)) (refused (refusal_before s.counters event list)) carried)
 
 -- ---- A variable's mark
 
@@ -74,21 +71,21 @@ pub record LineSettles (s : State) (context : GenContext) (v : ℕ) (after : Ans
   pub before : List ℕ
   pub place : RegType
   pub kept : CountsKept s.records before
-  pub told : after.at ≡ Place place
+  pub told : after.at ≡ Some place
   pub records : after.state.records ≡ (settled counters before s.freed_slots context v place).records
   pub queue : after.state.freed_slots ≡ (settled counters before s.freed_slots context v place).list
   pub counted : after.state.counters ≡ with_events_seen 1 (settled counters before s.freed_slots context v place).released.counters
-  pub unrefused : (settled counters before s.freed_slots context v place).released.refusal ≡ 0
+  pub unrefused : (settled counters before s.freed_slots context v place).released.refusal ≡ None
 
 module _
     (s : State) (size : length s.records ≡ variables * row_cells) (target : Target) (level : Level) (context : GenContext) (v : ℕ)
-    (inside : v < variables) (list : List ℕ) (accepted : (stepped s (Var target level context v) list).refusal ≡ 0) where
+    (inside : v < variables) (list : List ℕ) (accepted : (stepped s (Var target level context v) list).refusal ≡ None) where
   abbrev after : Answer
   after = stepped s (Var target level context v) list
 
   abbrev marked : VarMark
   marked =
-      var_marked s.counters s.records s.mappings (sets_of s) s.freed_slots s.branch_rows s.branch_sets
+      var_marked s.counters s.records s.mappings s.sets s.freed_slots s.branches.rows s.branches.sets
       (record { target = target; level = level; context = context; variable = v })
 
   mark_settles : Settles s.records s.freed_slots (record { target = target; level = level; context = context; variable = v }) marked
@@ -97,9 +94,9 @@ module _
       s.records
       s.freed_slots
       (record { target = target; level = level; context = context; variable = v })
-      s.branch_rows
-      s.branch_sets
-      (sets_of s)
+      s.branches.rows
+      s.branches.sets
+      s.sets
       s.counters
       s.mappings
       (counts_same s.records size)
@@ -127,7 +124,7 @@ module _
 
   -- the place's number is in use
   pub line_in_use :
-      (place : RegType) → number_of_place place ≤ registers → after.at ≡ Place place
+      (place : RegType) → number_of_place place ≤ registers → after.at ≡ Some place
       → has after.state.counters.in_use (number_of_place place) ≡ true
   line_in_use place register at =
       let ended = line_settles in

@@ -1,7 +1,7 @@
 -- Laws of a variable's mark: one that is not refused ends by settling the variable, and until then it changes no count.
-use Rattle.std.specs.Prelude.{ℕ, ◌<◌, ◌≡◌, Bool, List, eqb, ltb}
+use Rattle.std.specs.Prelude.{ℕ, ◌<◌, ◌≡◌, Bool, List, eqb}
 use Rattle.std.proofs.Math.Path.{refl}
-use Rattle.std.proofs.Common.{ap, arith, ltb-true}
+use Rattle.std.proofs.Common.{ap}
 use Rattle.std.proofs.Math.Bool.{true, false}
 use Rattle.std.specs.Prelude.{if◌then◌else◌}
 use Rattle.sizes.specs.Sizes.{variables}
@@ -17,16 +17,21 @@ use Rattle.variable_records.specs.declared.VarAlloc.TheVariants.{Temp, Perm}
 use Rattle.variable_records.specs.Rows.{record_at, temporary, is_temporary}
 use Rattle.branch_stack.specs.BranchStack.{current_branch}
 use Rattle.allocator_state.specs.declared.Counters.{Counters}
-use Rattle.evacuation.specs.Evacuation.{Sets, Evacuation}
+use Rattle.restricting_sets.specs.declared.VariableSets.{VariableSets}
+use Rattle.evacuation.specs.Evacuation.{Evacuation}
 use Rattle.allocation.specs.Allocation.{Placement, slot_given, perm_placed}
 use Rattle.freeing.specs.Freeing.{release_of}
 use Rattle.marks.specs.Marks.{RegisterPlacement, register_placed}
-use Rattle.mark_var.specs.declared.Mark.{Mark}
+use Rattle.reserved_var.specs.declared.Mark.{Mark}
 use Rattle.mark_var.specs.MarkVar.{Noted, Marking, VarMark, with_place, settled, finished_after, finished, noted}
 use Rattle.mark_var.specs.MarkVar.{instructed_at, reserved_after, reserved_marked, marked_at, new_temporary_after, new_temporary_marked, new_slot_after, new_slot_marked}
 use Rattle.mark_var.specs.MarkVar.{slot_marked, temporary_marked, permanent_marked, marked_by, var_marked}
 use Rattle.rules.specs.CountsLaws.{CountsKept}
 use Rattle.rules.specs.StepsLaws.{either_way, register_keeps, given_keeps, slot_keeps, instructed_keeps}
+use Rattle.refusals.specs.Refusals.{is_refused}
+use Rattle.refusals.specs.declared.Refusal.{Refusal}
+use Rattle.std.specs.Prelude.{Option, None}
+use Rattle.std.proofs.Common.{true≢false, sym, ◌∙◌}
 
 -- a mark ends by settling its variable, on records in which every variable has its counts and kind still
 pub record Settles (records list : List ℕ) (mark : Mark) (m : VarMark) : Type 0 where
@@ -39,11 +44,11 @@ pub record Settles (records list : List ℕ) (mark : Mark) (m : VarMark) : Type 
 
 -- what was refused on the way is refused
 pub unrefused :
-    {A : Type 0} (P : A → Type 0) (refusal_of : A → ℕ) (n : ℕ) (a b : A) → refusal_of a ≡ n → (refusal_of b ≡ 0 → P b)
-    → refusal_of (if ltb 0 n then a else b) ≡ 0 → P (if ltb 0 n then a else b)
+    {A : Type 0} (P : A → Type 0) (refusal_of : A → Option Refusal) (n : Option Refusal) (a b : A) → refusal_of a ≡ n → (refusal_of b ≡ None → P b)
+    → refusal_of (if is_refused n then a else b) ≡ None → P (if is_refused n then a else b)
 unrefused P refusal_of n a b told on e =
-    (elim (ltb 0 n) as (λ t. ltb 0 n ≡ t → refusal_of (if t then a else b) ≡ 0 → P (if t then a else b)) [
-      | true ↦ λ t e. absurd (omega (arith, ltb-true 0 n t))
+    (elim (is_refused n) as (λ t. is_refused n ≡ t → refusal_of (if t then a else b) ≡ None → P (if t then a else b)) [
+      | true ↦ λ t e. absurd (true≢false (sym t ∙ ap is_refused (sym told ∙ e)))
       | false ↦ λ t e. on e
     ])
     refl e
@@ -51,7 +56,7 @@ unrefused P refusal_of n a b told on e =
 module _ (records list : List ℕ) (mark : Mark) where
   -- whatever was not refused settles
   abbrev SettlesOr : VarMark → Type 0
-  SettlesOr m = m.marked.reached.refusal ≡ 0 → Settles records list mark m
+  SettlesOr m = m.marked.reached.refusal ≡ None → Settles records list mark m
 
   finished_settles :
       (n : Noted) (c : Counters) (now : List ℕ) (place : RegType) (code : CodeDeque) → CountsKept records now
@@ -78,7 +83,7 @@ module _ (records list : List ℕ) (mark : Mark) where
         e.reached.code
         kept)
 
-    module _ (s : Sets) where
+    module _ (s : VariableSets) where
       marked_settles :
           (c : Counters) (now mappings : List ℕ) (place : RegType) (is_new : Bool) (code : CodeDeque) → CountsKept records now
           → SettlesOr (marked_at c now mappings s list rows branch_sets mark place is_new code)

@@ -1,7 +1,7 @@
 -- Rules that are easily missed, each as a fact about the definitions.
-use Rattle.std.specs.Prelude.{ℕ, ◌+◌, ◌*◌, ◌%◌, ◌≤◌, ◌<◌, ◌≡◌, true, false, List, [], ◌∷◌, ◌++◌, ◌↔◌, ◌⊎◌, ◌≢◌, length, get_or}
+use Rattle.std.specs.Prelude.{ℕ, ◌+◌, ◌*◌, ◌%◌, ◌≤◌, ◌<◌, ◌≡◌, true, false, List, [], ◌∷◌, ◌++◌, ◌↔◌, ◌⊎◌, ◌≢◌, length, get_or, Some, None}
 use Rattle.std.proofs.Math.Path.{refl, ap}
-use Rattle.std.proofs.Common.{sym, ◌∙◌, inl, inr, arith}
+use Rattle.std.proofs.Common.{sym, ◌∙◌, inl, inr, arith, lt-ltb}
 use Rattle.std.proofs.Math.Bool.{false≢true}
 use Rattle.sizes.specs.Sizes.{variables, registers, chunks, freed_registers, freed_slots}
 use Rattle.bit_set.specs.BitSet.{has, union}
@@ -31,10 +31,10 @@ use Rattle.temp_var_data.specs.TestLaws.{refuted}
 use Rattle.temp_var_data.specs.Lists.{◌∈◌}
 use Rattle.temp_var_data.specs.Uses.{last_context, use_code, register_of, uses_of}
 use Rattle.perm_free_list.specs.declared.FreedSlot.{FreedSlot}
-use Rattle.perm_free_list.specs.PermFreeList.{entry_cells, entries, pending_slot, free_slot, none, looked}
+use Rattle.perm_free_list.specs.PermFreeList.{entry_cells, entries, pending_slot, free_slot, none, gives, looked}
+use Rattle.perm_free_list.specs.declared.Taken.{Taken}
 use Rattle.perm_free_list.specs.PermFreeListLaws.{looked_late, looked-taken, looked_dropped}
 use Rattle.allocator_state.specs.declared.Counters.{Counters}
-use Rattle.choice.specs.declared.Chosen.TheVariants.{Register, NoRegister}
 use Rattle.choice.specs.Choice.{in_use, least_outside}
 use Rattle.choice.specs.ChoiceRules.{use_set_wins, otherwise_least}
 use Rattle.evacuation.specs.Evacuation.{alloc_with_cr, alloc_with_ca, going_on}
@@ -43,12 +43,12 @@ use Rattle.record_marks.specs.declared.MarkedSafe.TheVariants.{Safe}
 use Rattle.record_marks.specs.RecordMarks.{in_place, marked_safe}
 use Rattle.reserved_var.specs.ReservedVar.{step, instructed_after, safe_made, argument_made}
 use Rattle.resets.specs.Resets.{whole_reset, contents_reset}
-use Rattle.clause_records.specs.ClauseRecords.{Restricting, populated}
+use Rattle.restricting_sets.specs.declared.VariableSets.{VariableSets}
+use Rattle.clause_records.specs.ClauseRecords.{populated}
 use Rattle.clause_records.specs.ClauseRecordsLaws.{chunk_in, Temporary, no_use_of_records, conflict_of_records}
 use Rattle.events.specs.declared.Event.TheVariants.{Var, Cut, Reset}
 use Rattle.events.specs.Events.{refusal_before, refusal_by_size}
 use Rattle.debray_allocator.specs.declared.State.{State}
-use Rattle.debray_allocator.specs.declared.At.TheVariants.{Place}
 use Rattle.debray_allocator.specs.declared.Answer.{Answer}
 use Rattle.debray_allocator.specs.DebrayAllocator.{seen_after, refused_with, acted, unless_refused, stepped}
 use Rattle.rules.specs.RulesLaws.{LeastFrom, unused_past, none_unused, least_free_exactly, least_apart_exactly, in_use_parts}
@@ -58,63 +58,63 @@ use Rattle.rules.specs.QueueLaws.{found_owned, found_some, given_to, taken-from}
 use Rattle.rules.specs.LineLaws.{line-either_way, line_in_use, line-counts, line_frees, line_leaves}
 
 -- v has no use of r
-abbrev pub DoesNotUse : List ℕ → List ℕ → ℕ → ℕ → Type 0
-DoesNotUse use_sets use_counts v r = (code : ℕ) → code ∈ uses_of use_sets use_counts v → r ≡ register_of code → ⊥
+abbrev pub DoesNotUse : VariableSets → ℕ → ℕ → Type 0
+DoesNotUse s v r = (code : ℕ) → code ∈ uses_of s.use_sets s.use_counts v → r ≡ register_of code → ⊥
 
 module _
-    (c : Counters) (records use_sets use_counts : List ℕ) (before : Restricting) (held : c.records ≤ variables)
+    (c : Counters) (records : List ℕ) (before : VariableSets) (held : c.records ≤ variables)
     (sized : (u : ℕ) → Temporary c records u → chunk_in c records u ≤ chunks) (v r : ℕ) (temporary : Temporary c records v)
     (inside : r ≤ registers) where
   -- ---- Rule 7.2: what `sets` adds to a no_use_lem set
 
   pub no_use-set_exactly :
       length before.no_use ≡ variables
-      → (has (set_at (populated c records use_sets use_counts before).no_use v) r ≡ true)
+      → (has (set_at (populated c records before).no_use v) r ≡ true)
       ↔ ((has (set_at before.no_use v) r ≡ true)
       ⊎ ((u : ℕ)
       × (Temporary c records u × (u ≢ v)
-      × (use_code (last_context (chunk_in c records v)) r ∈ uses_of use_sets use_counts u)
-      × ((u < v) ⊎ DoesNotUse use_sets use_counts v r))))
-  no_use-set_exactly = no_use_of_records c records held sized use_sets use_counts before v r temporary inside
+      × (use_code (last_context (chunk_in c records v)) r ∈ uses_of before.use_sets before.use_counts u)
+      × ((u < v) ⊎ DoesNotUse before v r))))
+  no_use-set_exactly = no_use_of_records c records held sized before v r temporary inside
 
   -- ---- Rule 7.3: what `sets` makes of a conflict set
 
   pub conflict_set_exactly :
       length before.conflict ≡ variables
-      → (has (set_at (populated c records use_sets use_counts before).conflict v) r ≡ true)
-      ↔ ((1 ≤ r) × (r < length (uses_of use_sets use_counts v)) × DoesNotUse use_sets use_counts v r)
-  conflict_set_exactly = conflict_of_records c records held sized use_sets use_counts before v r temporary inside
+      → (has (set_at (populated c records before).conflict v) r ≡ true)
+      ↔ ((1 ≤ r) × (r < length (uses_of before.use_sets before.use_counts v)) × DoesNotUse before v r)
+  conflict_set_exactly = conflict_of_records c records held sized before v r temporary inside
 
 -- ---- Rules 8.2 and 8.3: the choice for a variable
 
-module _ (c : Counters) (use_sets use_counts no_use conflict : List ℕ) (v : ℕ) where
+module _ (c : Counters) (s : VariableSets) (v : ℕ) where
   -- the entries before it are in use; the no_use_lem set and the conflict set may be any
   pub use_set_register_wins :
-      (passed rest : List ℕ) (code : ℕ) → uses_of use_sets use_counts v ≡ passed ++ (code ∷ rest)
+      (passed rest : List ℕ) (code : ℕ) → uses_of s.use_sets s.use_counts v ≡ passed ++ (code ∷ rest)
       → ((other : ℕ) → other ∈ passed → in_use c (register_of other) ≡ true) → in_use c (register_of code) ≡ false
-      → (alloc_with_cr c use_sets use_counts no_use v ≡ Register (register_of code))
-      × (alloc_with_ca c use_sets use_counts no_use conflict v ≡ Register (register_of code))
+      → (alloc_with_cr c s v ≡ Some (register_of code))
+      × (alloc_with_ca c s v ≡ Some (register_of code))
   use_set_register_wins passed rest code e taken unused =
-      let won = unused_past c (uses_of use_sets use_counts v) passed rest code e taken unused in (
-        use_set_wins c (uses_of use_sets use_counts v) (set_at no_use v) (register_of code) won,
-        use_set_wins c (uses_of use_sets use_counts v) (union (set_at no_use v) (set_at conflict v)) (register_of code) won,
+      let won = unused_past c (uses_of s.use_sets s.use_counts v) passed rest code e taken unused in (
+        use_set_wins c (uses_of s.use_sets s.use_counts v) (set_at s.no_use v) (register_of code) won,
+        use_set_wins c (uses_of s.use_sets s.use_counts v) (union (set_at s.no_use v) (set_at s.conflict v)) (register_of code) won,
       )
 
   -- every register of the use set is in use
-  module _ (taken : (code : ℕ) → code ∈ uses_of use_sets use_counts v → in_use c (register_of code) ≡ true) (r : ℕ) where
+  module _ (taken : (code : ℕ) → code ∈ uses_of s.use_sets s.use_counts v → in_use c (register_of code) ≡ true) (r : ℕ) where
     pub otherwise_least_not_in_no_use :
-        (alloc_with_cr c use_sets use_counts no_use v ≡ Register r)
-        ↔ LeastFrom c.temp_lb (λ q. (in_use c q ≡ false) × (has (set_at no_use v) q ≡ false)) r
+        (alloc_with_cr c s v ≡ Some r)
+        ↔ LeastFrom c.temp_lb (λ q. (in_use c q ≡ false) × (has (set_at s.no_use v) q ≡ false)) r
     otherwise_least_not_in_no_use =
-        rw (otherwise_least c (uses_of use_sets use_counts v) (set_at no_use v) (none_unused c (uses_of use_sets use_counts v) taken))
-        (least_free_exactly c (set_at no_use v) r)
+        rw (otherwise_least c (uses_of s.use_sets s.use_counts v) (set_at s.no_use v) (none_unused c (uses_of s.use_sets s.use_counts v) taken))
+        (least_free_exactly c (set_at s.no_use v) r)
 
     pub otherwise_least_nor_in_conflict :
-        (alloc_with_ca c use_sets use_counts no_use conflict v ≡ Register r)
-        ↔ LeastFrom c.temp_lb (λ q. (in_use c q ≡ false) × (has (set_at no_use v) q ≡ false) × (has (set_at conflict v) q ≡ false)) r
+        (alloc_with_ca c s v ≡ Some r)
+        ↔ LeastFrom c.temp_lb (λ q. (in_use c q ≡ false) × (has (set_at s.no_use v) q ≡ false) × (has (set_at s.conflict v) q ≡ false)) r
     otherwise_least_nor_in_conflict =
-        rw (otherwise_least c (uses_of use_sets use_counts v) (union (set_at no_use v) (set_at conflict v)) (none_unused c (uses_of use_sets use_counts v) taken))
-        (least_apart_exactly c (set_at no_use v) (set_at conflict v) r)
+        rw (otherwise_least c (uses_of s.use_sets s.use_counts v) (union (set_at s.no_use v) (set_at s.conflict v)) (none_unused c (uses_of s.use_sets s.use_counts v) taken))
+        (least_apart_exactly c (set_at s.no_use v) (set_at s.conflict v) r)
 
 -- ---- Rules 8.1, 8.5 and 12.10: what is in use, and what the choice for another term looks at
 
@@ -128,8 +128,8 @@ module _ (s : State) (target : Target) (level : Level) (context : GenContext) (v
       let after = stepped s (Var target level context v) list in
       length s.records ≡ variables * row_cells
       → v < variables
-      → after.refusal ≡ 0
-      → (slot : ℕ) → slot ≤ registers → after.at ≡ Place (PermSlot slot)
+      → after.refusal ≡ None
+      → (slot : ℕ) → slot ≤ registers → after.at ≡ Some (PermSlot slot)
       → has after.state.counters.in_use slot ≡ true
   set_receives_slot_numbers size inside accepted slot register at =
       line_in_use s size target level context v inside list accepted (PermSlot slot) register at
@@ -137,16 +137,16 @@ module _ (s : State) (target : Target) (level : Level) (context : GenContext) (v
 module _ (c : Counters) (r : ℕ) where
   -- rule 8.5: where no freed register is given, the least from `temp_lb` up that is not in the set, whatever the arguments
   pub non_variable_search_tests_the_set :
-      (list : List ℕ) → (popped c list c.freed_registers).chosen ≡ NoRegister
-      → ((non_var c list).chosen ≡ Register r) ↔ LeastFrom c.temp_lb (λ q. has c.in_use q ≡ false) r
+      (list : List ℕ) → (popped c list c.freed_registers).chosen ≡ None
+      → ((non_var c list).chosen ≡ Some r) ↔ LeastFrom c.temp_lb (λ q. has c.in_use q ≡ false) r
   unfolding non_var
   non_variable_search_tests_the_set list none =
       rw (none, searched-chosen c (least_outside c)) (least_outside_exactly c r)
 
   -- rule 8.5: a freed register that is given is neither between `arg_c` and `arity` nor in the set
   pub free-list_tests_both :
-      (list : List ℕ) → (popped c list c.freed_registers).chosen ≡ Register r
-      → ((non_var c list).chosen ≡ Register r) × (c.arg_c ≤ r → r ≤ c.arity → ⊥) × (has c.in_use r ≡ false)
+      (list : List ℕ) → (popped c list c.freed_registers).chosen ≡ Some r
+      → ((non_var c list).chosen ≡ Some r) × (c.arg_c ≤ r → r ≤ c.arity → ⊥) × (has c.in_use r ≡ false)
   unfolding non_var
   free-list_tests_both list given =
       let free = popped-free c list c.freed_registers r given in (
@@ -157,7 +157,7 @@ module _ (c : Counters) (r : ℕ) where
 
   -- and where none is given, each is the one or the other
   pub free-list_tests_no_more :
-      (list : List ℕ) → (popped c list c.freed_registers).chosen ≡ NoRegister
+      (list : List ℕ) → (popped c list c.freed_registers).chosen ≡ None
       → (i : ℕ) → i < c.freed_registers → in_use c (get_or list (i % freed_registers) 0) ≡ true
   free-list_tests_no_more list nothing = popped-nothing c list c.freed_registers nothing
 
@@ -188,7 +188,7 @@ module _ (context at : GenContext) (safety : VarSafetyStatus) (to_perm : ℕ) (o
 
 module _
     (s : State) (size : length s.records ≡ variables * row_cells) (target : Target) (level : Level) (context : GenContext) (v : ℕ)
-    (inside : v < variables) (list : List ℕ) (accepted : (stepped s (Var target level context v) list).refusal ≡ 0) where
+    (inside : v < variables) (list : List ℕ) (accepted : (stepped s (Var target level context v) list).refusal ≡ None) where
   pub var_mark-counts :
       let after = (stepped s (Var target level context v) list).state in
       (record_at s.records v).running_count < (record_at s.records v).num_occurrences
@@ -260,10 +260,10 @@ module _ (records : List ℕ) (chunk dropped : ℕ) (front : FreedSlot) (behind 
       front.chunk < chunk
       → (slot : ℕ) → (record_at records front.variable).allocation ≡ Perm slot Pending → 0 < slot
       → looked records chunk dropped (front ∷ behind)
-      ≡ record { dropped = dropped + 1; slot = slot; owner = front.variable }
+      ≡ gives (dropped + 1) slot front.variable
   unfolding free_slot
   front_given_to_a_later_chunk later slot pending positive =
-      looked-taken records chunk dropped front behind later slot (sym (ap pending_slot pending)) positive
+      looked-taken records chunk dropped front behind later slot (ap pending_slot pending ∙ simp (lt-ltb 0 slot positive))
 
   -- not to its own chunk, nor to an earlier one: then no entry is looked at
   pub nothing_given_before_a_later_chunk : chunk ≤ front.chunk → looked records chunk dropped (front ∷ behind) ≡ none dropped
@@ -275,7 +275,7 @@ module _ (records : List ℕ) (chunk dropped : ℕ) (front : FreedSlot) (behind 
       → looked records chunk dropped (front ∷ behind) ≡ looked records chunk (dropped + 1) behind
   unfolding free_slot
   other_old_entry_dropped later other =
-      looked_dropped records chunk dropped front behind later _ refl (pending_slot-zero (record_at records front.variable).allocation other)
+      looked_dropped records chunk dropped front behind later (pending_slot-zero (record_at records front.variable).allocation other)
 
 -- a variable without a slot takes the one that was found: it is its own, and the old owner has none
 module _
@@ -284,21 +284,21 @@ module _
   pub slot_taken-from_its_owner :
       let found = looked records chunk 0 (entries list c.first_freed_slot 0 c.freed_slots) in
       let after = perm_placed c records list v chunk in
-      0 < found.slot
-      → found.owner < variables
-      → (after.placed ≡ placed_in (without_front c found.dropped) found.slot)
-      × ((record_at after.records v).allocation ≡ Perm found.slot (Done Needed Needed))
-      × ((record_at after.records found.owner).allocation ≡ Perm 0 Pending)
+      (taken : Taken) → found.taken ≡ Some taken
+      → taken.owner < variables
+      → (after.placed ≡ placed_in (without_front c found.dropped) taken.slot)
+      × ((record_at after.records v).allocation ≡ Perm taken.slot (Done Needed Needed))
+      × ((record_at after.records taken.owner).allocation ≡ Perm 0 Pending)
   unfolding perm_placed
-  slot_taken-from_its_owner positive owned =
+  slot_taken-from_its_owner slot given owned =
       let found = looked records chunk 0 (entries list c.first_freed_slot 0 c.freed_slots) in
-      let pending = found_owned records chunk 0 (entries list c.first_freed_slot 0 c.freed_slots) positive in
-      let taken = found_some found c records v positive in (
+      let pending = rw given at (found_owned records chunk 0 (entries list c.first_freed_slot 0 c.freed_slots)) in
+      let taken = found_some found c records v slot given in (
         ap (λ (p : Placement). p.placed) taken,
         ap (λ (p : Placement). (record_at p.records v).allocation) taken
-            ∙ given_to found c records v positive size held inside owned slotless pending,
-        ap (λ (p : Placement). (record_at p.records found.owner).allocation) taken
-            ∙ taken-from found c records v positive size held inside owned slotless pending,
+            ∙ given_to found c records v slot given pending.0 size held inside owned slotless pending.1,
+        ap (λ (p : Placement). (record_at p.records slot.owner).allocation) taken
+            ∙ taken-from found c records v slot given pending.0 size held inside owned slotless pending.1,
       )
 
 -- ---- Rule 12.5: a permanent variable as a new argument of the head
@@ -306,7 +306,7 @@ module _
 module _ (slot : ℕ) (shallow deep : VarSafetyStatus) (branch : Branch) where
   pub head_makes_only_shallow_safety_unneeded :
       (variable : VariableRecord) → variable.allocation ≡ Perm slot (Done shallow deep)
-      → marked_safe variable Shallow Head branch ≡ Safe (allocated variable (Perm slot (Done GloballyUnneeded deep)))
+      → marked_safe variable Shallow Head branch ≡ Some (Safe (allocated variable (Perm slot (Done GloballyUnneeded deep))))
   head_makes_only_shallow_safety_unneeded variable done = simp done
 
   -- with its instruction
@@ -333,8 +333,8 @@ module _ (s : State) (list : List ℕ) where
       × (after.counters.temp_lb ≡ s.counters.temp_lb)
       × (after.counters.arity ≡ s.counters.arity)
       -- the branches
-      × (after.branch_rows ≡ s.branch_rows)
-      × (after.branch_sets ≡ s.branch_sets)
+      × (after.branches.rows ≡ s.branches.rows)
+      × (after.branches.sets ≡ s.branches.sets)
       × (after.counters.open_branches ≡ s.counters.open_branches)
   unfolding stepped unless_refused acted refusal_before refusal_by_size seen_after whole_reset contents_reset
   reset_clears_neither = (refl, refl, refl, refl, refl, refl, refl, refl, refl)

@@ -1,6 +1,6 @@
 -- Laws that the rules easily missed are read off.
 use Prim.Native.Nat.{ℕ, zero, suc, ◌%◌, ◌≤◌, ◌<◌}
-use Rattle.std.specs.Prelude.{◌≡◌, Bool, ◌&&◌, ◌||◌, ◌↔◌, ◌⊎◌, ◌≢◌, eqb}
+use Rattle.std.specs.Prelude.{Option, Some, None, ◌≡◌, Bool, ◌&&◌, ◌||◌, ◌↔◌, ◌⊎◌, ◌≢◌, eqb}
 use Rattle.std.proofs.Math.Path.{refl, ap}
 use Rattle.std.proofs.Common.{sym, ◌∙◌, eq-or-lt_of_le}
 use Rattle.std.proofs.Math.Bool.{true, false, not, and-false}
@@ -30,8 +30,6 @@ use Rattle.temp_var_data.specs.TestLaws.{refuted, either_exactly}
 use Rattle.temp_var_data.specs.Lists.{◌∈◌}
 use Rattle.temp_var_data.specs.Uses.{register_of}
 use Rattle.allocator_state.specs.declared.Counters.{Counters}
-use Rattle.choice.specs.declared.Chosen.{Chosen}
-use Rattle.choice.specs.declared.Chosen.TheVariants.{Register, NoRegister}
 use Rattle.choice.specs.Choice.{in_use, is_free, first, registers_from, first_unused, least_free, least_outside}
 use Rattle.choice.specs.ChoiceLaws.{least_end}
 use Rattle.choice.specs.ChoiceRules.{Least, least_exactly}
@@ -47,7 +45,7 @@ pub record LeastFrom (n : ℕ) (Holds : ℕ → Type 0) (r : ℕ) : Type 0 where
   pub holds : Holds r
   pub none_before : (q : ℕ) → n ≤ q → q < r → Holds q → ⊥
 
-no_register_lem : (r : ℕ) → NoRegister ≡ Register r → ⊥
+no_register_lem : (r : ℕ) → None ≡ Some r → ⊥
 no_register_lem r e = let z : ◌≡◌ {A = ℕ} 0 1 = cc in omega arith
 
 -- where a test is passed exactly by what `Holds`, the first register from n on that passes is the least that does
@@ -68,9 +66,9 @@ module _ (test : ℕ → Bool) (Holds : ℕ → Type 0) (tells : (q : ℕ) → (
     },
   )
 
-  pub first-is_least : (first test (registers_from n) ≡ Register r) ↔ LeastFrom n Holds r
+  pub first-is_least : (first test (registers_from n) ≡ Some r) ↔ LeastFrom n Holds r
   first-is_least =
-      elim (leb n registers) as (λ t. leb n registers ≡ t → (first test (registers_from n) ≡ Register r) ↔ LeastFrom n Holds r) [
+      elim (leb n registers) as (λ t. leb n registers ≡ t → (first test (registers_from n) ≡ Some r) ↔ LeastFrom n Holds r) [
         | true ↦ λ t. (let inside = leb-true n registers t in
             let exactly = least_exactly test n r inside in
             (λ e. least_told.0 (exactly.0 e), λ l. exactly.1 (least_told.1 l)))
@@ -85,7 +83,7 @@ module _ (c : Counters) where
   first_past :
       (passed rest : List ℕ) (code : ℕ) → ((other : ℕ) → other ∈ passed → in_use c (register_of other) ≡ true)
       → in_use c (register_of code) ≡ false
-      → first (λ r. not (in_use c r)) (map register_of (passed ++ (code ∷ rest))) ≡ Register (register_of code)
+      → first (λ r. not (in_use c r)) (map register_of (passed ++ (code ∷ rest))) ≡ Some (register_of code)
   unfolding first
   first_past [] rest code taken unused = simp unused
   first_past (other ∷ passed) rest code taken unused =
@@ -94,20 +92,20 @@ module _ (c : Counters) where
   pub unused_past :
       (use_set passed rest : List ℕ) (code : ℕ) → use_set ≡ passed ++ (code ∷ rest)
       → ((other : ℕ) → other ∈ passed → in_use c (register_of other) ≡ true) → in_use c (register_of code) ≡ false
-      → first_unused c use_set ≡ Register (register_of code)
+      → first_unused c use_set ≡ Some (register_of code)
   unfolding first_unused
   unused_past use_set passed rest code e taken unused = rw e (first_past passed rest code taken unused)
 
   none_first :
       (use_set : List ℕ) → ((code : ℕ) → code ∈ use_set → in_use c (register_of code) ≡ true)
-      → first (λ r. not (in_use c r)) (map register_of use_set) ≡ NoRegister
+      → first (λ r. not (in_use c r)) (map register_of use_set) ≡ None
   unfolding first
   none_first [] taken = refl
   none_first (code ∷ use_set) taken =
       simp (taken code (Memᴰ.head refl)) (none_first use_set (λ o m. taken o (Memᴰ.tail m)))
 
   pub none_unused :
-      (use_set : List ℕ) → ((code : ℕ) → code ∈ use_set → in_use c (register_of code) ≡ true) → first_unused c use_set ≡ NoRegister
+      (use_set : List ℕ) → ((code : ℕ) → code ∈ use_set → in_use c (register_of code) ≡ true) → first_unused c use_set ≡ None
   unfolding first_unused
   none_unused use_set taken = none_first use_set taken
 
@@ -126,7 +124,7 @@ module _ (c : Counters) where
 
   pub least_free_exactly :
       (avoided r : ℕ)
-      → (least_free c avoided ≡ Register r)
+      → (least_free c avoided ≡ Some r)
       ↔ LeastFrom c.temp_lb (λ q. (in_use c q ≡ false) × (has avoided q ≡ false)) r
   unfolding least_free
   least_free_exactly avoided r =
@@ -134,7 +132,7 @@ module _ (c : Counters) where
 
   pub least_apart_exactly :
       (one other r : ℕ)
-      → (least_free c (union one other) ≡ Register r)
+      → (least_free c (union one other) ≡ Some r)
       ↔ LeastFrom c.temp_lb (λ q. (in_use c q ≡ false) × (has one q ≡ false) × (has other q ≡ false)) r
   unfolding least_free
   least_apart_exactly one other r =
@@ -159,20 +157,20 @@ module _ (c : Counters) where
   -- ---- A term that is no variable
 
   pub least_outside_exactly :
-      (r : ℕ) → (least_outside c ≡ Register r) ↔ LeastFrom c.temp_lb (λ q. has c.in_use q ≡ false) r
+      (r : ℕ) → (least_outside c ≡ Some r) ↔ LeastFrom c.temp_lb (λ q. has c.in_use q ≡ false) r
   unfolding least_outside
   least_outside_exactly r =
       first-is_least (λ q. not (has c.in_use q)) (λ q. has c.in_use q ≡ false)
       (λ q. (λ h. not-true (has c.in_use q) h, λ h. simp h))
       c.temp_lb r
 
-  pub popped-free : (list : List ℕ) (left r : ℕ) → (popped c list left).chosen ≡ Register r → in_use c r ≡ false
+  pub popped-free : (list : List ℕ) (left r : ℕ) → (popped c list left).chosen ≡ Some r → in_use c r ≡ false
   unfolding popped
   popped-free list zero r e = absurd (no_register_lem r e)
   popped-free list (suc left) r e =
       (elim (in_use c (get_or list (left % freed_registers) 0)) as
       (λ t. in_use c (get_or list (left % freed_registers) 0) ≡ t
-      → (if t then popped c list left else record { left = left; chosen = Register (get_or list (left % freed_registers) 0) }).chosen ≡ Register r
+      → (if t then popped c list left else record { left = left; chosen = Some (get_or list (left % freed_registers) 0) }).chosen ≡ Some r
       → in_use c r ≡ false) [
         | true ↦ λ t e. popped-free list left r e
         | false ↦ λ t e. (let same : get_or list (left % freed_registers) 0 ≡ r = cc in rw (← same) t)
@@ -181,14 +179,14 @@ module _ (c : Counters) where
 
   -- nothing is given where all are in use
   pub popped-nothing :
-      (list : List ℕ) (left : ℕ) → (popped c list left).chosen ≡ NoRegister
+      (list : List ℕ) (left : ℕ) → (popped c list left).chosen ≡ None
       → (i : ℕ) → i < left → in_use c (get_or list (i % freed_registers) 0) ≡ true
   unfolding popped
   popped-nothing list zero e i less = absurd (omega arith)
   popped-nothing list (suc left) e i less =
       (elim (in_use c (get_or list (left % freed_registers) 0)) as
       (λ t. in_use c (get_or list (left % freed_registers) 0) ≡ t
-      → (if t then popped c list left else record { left = left; chosen = Register (get_or list (left % freed_registers) 0) }).chosen ≡ NoRegister
+      → (if t then popped c list left else record { left = left; chosen = Some (get_or list (left % freed_registers) 0) }).chosen ≡ None
       → in_use c (get_or list (i % freed_registers) 0) ≡ true) [
         | true ↦ λ t e. ⊎_elim
             (λ same. ap (λ (n : ℕ). in_use c (get_or list (n % freed_registers) 0)) same ∙ t)
@@ -198,9 +196,9 @@ module _ (c : Counters) where
       ])
       refl e
 
-  pub searched-chosen : (found : Chosen) → (searched c found).chosen ≡ found
-  searched-chosen (Register r) = refl
-  searched-chosen NoRegister = refl
+  pub searched-chosen : (found : Option ℕ) → (searched c found).chosen ≡ found
+  searched-chosen (Some r) = refl
+  searched-chosen None = refl
 
 -- ---- A record
 
@@ -221,8 +219,8 @@ not-in_place (Last chunk) outside variable r k elsewhere = elsewhere
 
 -- a variable that is not Pending with a slot has none to give
 pub pending_slot-zero :
-    (allocation : VarAlloc) → ((slot : ℕ) → allocation ≡ Perm slot Pending → 0 < slot → ⊥) → pending_slot allocation ≤ 0
-pending_slot-zero (Temp context register safety to_perm) other = omega arith
-pending_slot-zero (Perm slot (Done shallow deep)) other = omega arith
-pending_slot-zero (Perm zero Pending) other = omega arith
+    (allocation : VarAlloc) → ((slot : ℕ) → allocation ≡ Perm slot Pending → 0 < slot → ⊥) → pending_slot allocation ≡ None
+pending_slot-zero (Temp context register safety to_perm) other = refl
+pending_slot-zero (Perm slot (Done shallow deep)) other = refl
+pending_slot-zero (Perm zero Pending) other = refl
 pending_slot-zero (Perm (suc slot) Pending) other = absurd (other (suc slot) refl (omega arith))

@@ -1,7 +1,7 @@
 -- Laws of settling, rule 12.10: the place's number is in use, and the variable is counted or freed.
 use Rattle.std.specs.Prelude.{ℕ, ◌+◌, ◌*◌, ◌≤◌, ◌<◌, ◌≡◌, Bool, true, false, List, [], ◌∷◌, ◌++◌, leb, length}
 use Rattle.std.proofs.Math.Path.{refl, ap}
-use Rattle.std.proofs.Common.{sym, ◌∙◌, arith}
+use Rattle.std.proofs.Common.{sym, ◌∙◌}
 use Rattle.std.proofs.Math.Bool.{or-true}
 use Rattle.std.proofs.lemmas.Bool.{false≢true}
 use borrow.Author.Tests.{lt-ltb, le-ltb, leb-false, eq-eqb}
@@ -30,10 +30,12 @@ use Rattle.allocator_state.specs.declared.Counters.{Counters}
 use Rattle.allocator_state.specs.Counters.{with_freed_slots}
 use Rattle.freeing.specs.Freeing.{ReleaseOf, release_of, Release, release, kept, with_records, pushed_free, freed, running_at, counted_or_freed}
 use Rattle.mark_var.specs.MarkVar.{settled}
+use Rattle.std.specs.Prelude.{None}
+use Rattle.std.proofs.lemmas.Option.{none-some}
 
 -- a push that is not refused puts its variable behind all others
 pushed_joins :
-    (c : Counters) (list : List ℕ) (chunk v : ℕ) → length list ≡ freed_slots * entry_cells → (pushed_free c list chunk v).released.refusal ≡ 0
+    (c : Counters) (list : List ℕ) (chunk v : ℕ) → length list ≡ freed_slots * entry_cells → (pushed_free c list chunk v).released.refusal ≡ None
     → entries
     (pushed_free c list chunk v).list
     (pushed_free c list chunk v).released.counters.first_freed_slot
@@ -43,8 +45,8 @@ pushed_joins :
 unfolding pushed_free
 pushed_joins c list chunk v size accepted =
     (elim (leb freed_slots c.freed_slots) as
-    (λ t. leb freed_slots c.freed_slots ≡ t → (push_of t).released.refusal ≡ 0 → Joined (push_of t)) [
-      | true ↦ λ t e. absurd (let z : ◌≡◌ {A = ℕ} 7 0 = e in omega arith)
+    (λ t. leb freed_slots c.freed_slots ≡ t → (push_of t).released.refusal ≡ None → Joined (push_of t)) [
+      | true ↦ λ t e. absurd (none-some _ (sym e))
       | false ↦ λ t e. entries-push list c.first_freed_slot c.freed_slots (record { chunk = chunk; variable = v }) size (leb-false freed_slots c.freed_slots t)
     ])
     refl accepted
@@ -157,7 +159,7 @@ module _ (c : Counters) (records list : List ℕ) (context : GenContext) (v : �
         -- it joins the queue
         pub settled_joins :
             length list ≡ freed_slots * entry_cells
-            → (settled c records list context v place).released.refusal ≡ 0
+            → (settled c records list context v place).released.refusal ≡ None
             → (older : List FreedSlot)
             × (entries
             (settled c records list context v place).list

@@ -1,5 +1,5 @@
 -- Laws of a mark's steps: up to its end none of them changes a count or a kind.
-use Rattle.std.specs.Prelude.{ℕ, ◌<◌, ◌≡◌, Bool, true, false, List, eqb, leb, ltb}
+use Rattle.std.specs.Prelude.{Option, Some, None, ℕ, ◌<◌, ◌≡◌, Bool, true, false, List, eqb, leb, ltb}
 use Rattle.std.proofs.Math.Path.{refl}
 use Rattle.std.proofs.Common.{sym, ◌∙◌}
 use Rattle.std.specs.Prelude.{if◌then◌else◌}
@@ -21,20 +21,23 @@ use Rattle.variable_records.specs.Safety.{safety_unneeded}
 use Rattle.variable_records.specs.Rows.{record_at, temporary, is_temporary}
 use Rattle.shallow_temp_mappings.specs.Mappings.{mapped_at}
 use Rattle.perm_free_list.specs.declared.Looked.{Looked}
+use Rattle.perm_free_list.specs.declared.Taken.{Taken}
 use Rattle.allocator_state.specs.declared.Counters.{Counters}
 use Rattle.evacuation.specs.declared.Hint.{Hint}
 use Rattle.evacuation.specs.declared.Hint.TheVariants.{Stays, Moves, NoRegister}
-use Rattle.evacuation.specs.Evacuation.{Sets, Evacuation, moved_to, evacuated_by, evacuated, hint}
-use Rattle.allocation.specs.Allocation.{Placement, slot_given, slot_taken, new_slot, slot_found, perm_placed, without_front}
+use Rattle.restricting_sets.specs.declared.VariableSets.{VariableSets}
+use Rattle.evacuation.specs.Evacuation.{Evacuation, moved_to, evacuated_by, evacuated, hint}
+use Rattle.allocation.specs.Allocation.{Placement, slot_given, slot_taken, new_slot, slot_placed, slot_found, perm_placed, without_front}
 use Rattle.record_marks.specs.RecordMarks.{safe_in, marked_safe_of, remembered_of, argument_safe, argument_value_of, subterm_value_of}
 use Rattle.record_marks.specs.declared.Valued.{Valued}
 use Rattle.record_marks.specs.RecordMarks.{in_place}
 use Rattle.reserved_var.specs.ReservedVar.{Step, SafeStep, safe_kept, remembered, safe_made_by, safe_made, value_kept, argument_made, met, subterm_made}
 use Rattle.reserved_var.specs.ReservedVar.{others_out, marked_after, argument_marked}
 use Rattle.marks.specs.Marks.{RegisterPlacement, after_evacuation, alloc_shallow, register_placed}
-use Rattle.mark_var.specs.declared.Mark.{Mark}
+use Rattle.reserved_var.specs.declared.Mark.{Mark}
 use Rattle.mark_var.specs.MarkVar.{instructed_at}
 use Rattle.rules.specs.CountsLaws.{CountsKept, counts_same, counts-again, counts_placed, counts-allocated, counts_anew}
+use Rattle.refusals.specs.Refusals.{is_refused}
 
 -- what holds on both ways holds after a choice
 pub either_way : {A : Type 0} (P : A → Type 0) (t : Bool) {a b : A} → P a → P b → P (if t then a else b)
@@ -57,24 +60,24 @@ module _ {before : List ℕ} {records : List ℕ} (kept : CountsKept before reco
       either_way (λ (e : Evacuation). CountsKept before e.records) (eqb r c.arg_c) kept (moved_keeps c mappings code v r)
 
   evacuated_keeps :
-      (c : Counters) (mappings : List ℕ) (s : Sets) (chunk : ℕ) (code : CodeDeque)
+      (c : Counters) (mappings : List ℕ) (s : VariableSets) (chunk : ℕ) (code : CodeDeque)
       → CountsKept before (evacuated c records mappings s chunk code).records
   unfolding evacuated
   evacuated_keeps c mappings s chunk code = evacuated_by_keeps (hint c records mappings s chunk) c mappings code
 
-  after_keeps : (e : Evacuation) (s : Sets) (v : ℕ) → CountsKept before e.records → CountsKept before (after_evacuation e s v).records
+  after_keeps : (e : Evacuation) (s : VariableSets) (v : ℕ) → CountsKept before e.records → CountsKept before (after_evacuation e s v).records
   unfolding after_evacuation
-  after_keeps e s v k = either_way (λ (p : RegisterPlacement). CountsKept before p.records) (ltb 0 e.reached.refusal) k k
+  after_keeps e s v k = either_way (λ (p : RegisterPlacement). CountsKept before p.records) (is_refused e.reached.refusal) k k
 
   shallow_keeps :
-      (c : Counters) (mappings : List ℕ) (s : Sets) (v chunk : ℕ) (code : CodeDeque)
+      (c : Counters) (mappings : List ℕ) (s : VariableSets) (v chunk : ℕ) (code : CodeDeque)
       → CountsKept before (alloc_shallow c records mappings s v chunk code).records
   unfolding alloc_shallow
   shallow_keeps c mappings s v chunk code =
       after_keeps (evacuated c records mappings s chunk code) s v (evacuated_keeps c mappings s chunk code)
 
   pub register_keeps :
-      (c : Counters) (mappings : List ℕ) (s : Sets) (v : ℕ) (level : Level) (context : GenContext) (code : CodeDeque)
+      (c : Counters) (mappings : List ℕ) (s : VariableSets) (v : ℕ) (level : Level) (context : GenContext) (code : CodeDeque)
       → CountsKept before (register_placed c records mappings s v level context code).records
   register_keeps c mappings s v Root context code = kept
   register_keeps c mappings s v Deep context code = kept
@@ -149,7 +152,7 @@ module _ {before : List ℕ} {records : List ℕ} (kept : CountsKept before reco
   argument_value_keeps c v (Temp context register safety to_perm) e target place k tail branch code = counts-again kept v
   argument_value_keeps c v (Perm slot Pending) e target place k tail branch code = kept
   argument_value_keeps c v (Perm slot (Done shallow deep)) e target place k tail branch code =
-      either_way (λ (made : Valued). CountsKept before (value_kept c records v made code).records) (argument_safe tail shallow branch)
+      either_way (λ (made : Option Valued). CountsKept before (value_kept c records v made code).records) (argument_safe tail shallow branch)
       (counts-again kept v)
       (counts_anew kept v _ e refl)
 
@@ -158,12 +161,12 @@ module _ {before : List ℕ} {records : List ℕ} (kept : CountsKept before reco
       → CountsKept before (value_kept c records v (subterm_value_of allocation (record_at records v) target place branch) code).records
   unfolding subterm_value_of temporary
   subterm_value_keeps c v (Temp context register safety to_perm) e target place branch code =
-      either_way (λ (made : Valued). CountsKept before (value_kept c records v made code).records) (safety_unneeded safety branch)
+      either_way (λ (made : Option Valued). CountsKept before (value_kept c records v made code).records) (safety_unneeded safety branch)
       (counts-again kept v)
       (counts_anew kept v _ e refl)
   subterm_value_keeps c v (Perm slot Pending) e target place branch code = kept
   subterm_value_keeps c v (Perm slot (Done shallow deep)) e target place branch code =
-      either_way (λ (made : Valued). CountsKept before (value_kept c records v made code).records) (safety_unneeded deep branch)
+      either_way (λ (made : Option Valued). CountsKept before (value_kept c records v made code).records) (safety_unneeded deep branch)
       (counts-again kept v)
       (counts_anew kept v _ e refl)
 
@@ -177,15 +180,15 @@ module _ {before : List ℕ} {records : List ℕ} (kept : CountsKept before reco
         (safe_keeps mappings c.arg_c v level context branch)
         (argument_value_keeps c v (record_at records v).allocation refl target place c.arg_c c.in_tail_position branch code))
 
-    subterm_keeps : (use_sets use_counts : List ℕ) → CountsKept before (subterm_made c records mappings use_sets use_counts target context v place is_new branch code).records
+    subterm_keeps : (s : VariableSets) → CountsKept before (subterm_made c records mappings s target context v place is_new branch code).records
     unfolding subterm_made
-    subterm_keeps use_sets use_counts =
-        either_way (λ (s : Step). CountsKept before s.records) (met records use_sets use_counts context v place is_new)
+    subterm_keeps s =
+        either_way (λ (m : Step). CountsKept before m.records) (met records s context v place is_new)
         (subterm_value_keeps c v (record_at records v).allocation refl target place branch code)
         (safe_keeps mappings c.arg_c v Deep context branch)
 
   others_out-keep :
-      (c : Counters) (mappings : List ℕ) (s : Sets) (v chunk : ℕ) (code : CodeDeque)
+      (c : Counters) (mappings : List ℕ) (s : VariableSets) (v chunk : ℕ) (code : CodeDeque)
       → CountsKept before (others_out c records mappings s v chunk code).records
   unfolding others_out
   others_out-keep c mappings s v chunk code =
@@ -202,11 +205,11 @@ module _ {before : List ℕ} where
       → CountsKept before (marked_after e target level context v place is_new branch).records
   unfolding marked_after
   marked_after_keeps e kept target level context v place is_new branch =
-      either_way (λ (e : Evacuation). CountsKept before e.records) (ltb 0 e.reached.refusal)
+      either_way (λ (e : Evacuation). CountsKept before e.records) (is_refused e.reached.refusal)
       kept
       (argument_keeps kept e.reached.counters e.mappings target context v place is_new branch e.reached.code level)
 
-  module _ {records : List ℕ} (kept : CountsKept before records) (c : Counters) (mappings : List ℕ) (s : Sets) where
+  module _ {records : List ℕ} (kept : CountsKept before records) (c : Counters) (mappings : List ℕ) (s : VariableSets) where
     argument_marked_keeps :
         (target : Target) (level : Level) (context : GenContext) (v : ℕ) (place : RegType) (is_new : Bool) (branch : Branch) (code : CodeDeque)
         → CountsKept before (argument_marked c records mappings s target level context v place is_new branch code).records
@@ -220,7 +223,7 @@ module _ {before : List ℕ} where
         (level : Level) (mark : Mark) (place : RegType) (is_new : Bool) (branch : Branch) (code : CodeDeque)
         → CountsKept before (instructed_at level c records mappings s mark place is_new branch code).records
     instructed_keeps Deep mark place is_new branch code =
-        subterm_keeps kept c mappings mark.target mark.context mark.variable place is_new branch code s.use_sets s.use_counts
+        subterm_keeps kept c mappings mark.target mark.context mark.variable place is_new branch code s
     instructed_keeps Root mark place is_new branch code =
         argument_marked_keeps mark.target Root mark.context mark.variable place is_new branch code
     instructed_keeps Shallow mark place is_new branch code =
@@ -228,14 +231,19 @@ module _ {before : List ℕ} where
 
   -- ---- A slot
 
+  placed_keeps :
+      {records : List ℕ} → CountsKept before records → (taken : Option Taken) (c : Counters) (v : ℕ) → v < variables
+      → is_temporary records v ≡ false → CountsKept before (slot_placed taken c records v).records
+  placed_keeps kept (Some taken) c v inside permanent =
+      given_keeps (taken_keeps kept taken.owner) v taken.slot (taken_kind kept taken.owner v inside permanent)
+  placed_keeps kept None c v inside permanent = new_slot_keeps kept c v permanent
+
   found_keeps :
       {records : List ℕ} → CountsKept before records → (found : Looked) (c : Counters) (v : ℕ) → v < variables → is_temporary records v ≡ false
       → CountsKept before (slot_found found c records v).records
   unfolding slot_found
   found_keeps {records} kept found c v inside permanent =
-      either_way (λ (p : Placement). CountsKept before p.records) (ltb 0 found.slot)
-      (given_keeps (taken_keeps kept found.owner) v found.slot (taken_kind kept found.owner v inside permanent))
-      (new_slot_keeps kept (without_front c found.dropped) v permanent)
+      placed_keeps kept found.taken (without_front c found.dropped) v inside permanent
 
   pub slot_keeps :
       {records : List ℕ} → CountsKept before records → (c : Counters) (list : List ℕ) (v chunk : ℕ) → v < variables

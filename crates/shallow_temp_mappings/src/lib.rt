@@ -2,21 +2,19 @@
 #![tactic(auto)]
 
 ghost use Rattle.std.specs.Prelude.{◌≡◌};
-ghost use Rattle.shallow_temp_mappings.specs.Mappings.{unmapped, mapped_at, mapped_with};
+ghost use Rattle.shallow_temp_mappings.specs.Mappings.{unmapped, variable_at, mapped_with};
 
 use sizes::{LAST_REGISTER, VARIABLES};
 
-// A variable for each register from 0 on, or the number past the last variable where none is mapped.
+// A variable for each register from 0 on, or the number past the last variable where none is mapped: a C host lends them.
 pub type Mappings = [u32; LAST_REGISTER as usize + 1];
 
-// The variable that is mapped to a register; the number past the last variable where there is none.
-pub fn get(mappings: &Mappings, r: u32) -> u32
-    ensures { result ≡ mapped_at mappings.now r }
+// The variable that is mapped to a register, where one is.
+pub fn get(mappings: &Mappings, r: u32) -> Option<u32>
+    ensures { result ≡ variable_at mappings.now r }
 {
-    if r <= LAST_REGISTER {
-        return mappings[r as usize];
-    }
-    VARIABLES as u32
+    let v = *mappings.get(r as usize)?;
+    (v < VARIABLES as u32).then_some(v)
 }
 
 // Maps a register to a variable.

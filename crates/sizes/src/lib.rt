@@ -58,13 +58,3 @@ pub fn is_count(n: u32) -> bool
 {
     n <= LAST_COUNT
 }
-
-// Whether two tests hold.
-pub fn both(first: bool, second: bool) -> bool
-    ensures { result ≡ (first && second) }
-{
-    if first {
-        return second;
-    }
-    false
-}

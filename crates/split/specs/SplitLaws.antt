@@ -1,21 +1,9 @@
 -- Laws of parts: how the two functions that cut find them, and that the parts are those of the one way to cut.
-use Rattle.std.specs.Prelude.{ℕ, suc, ◌+◌, ◌≤◌, ◌<◌, ◌≡◌, refl, List, [], ◌∷◌, true, false, eqb, length, get_or, take, drop}
-use Rattle.std.proofs.Common.{zero-le, suc-le-suc, ap, add-one, arith, length-drop, drop_of_length-le, drop-cons, eq-eqb, ne_eqb}
+use Rattle.std.specs.Prelude.{ℕ, suc, ◌+◌, ◌≤◌, ◌<◌, ◌≡◌, refl, List, [], ◌∷◌, true, false, not, eqb, ltb, length, take, drop, Some, None, position, unwrap_or}
+use Rattle.std.specs.List.{position_or_len}
+use Rattle.std.proofs.Common.{zero-le, suc-le-suc, ap, add-one, arith, length-drop, drop_of_length-le, ltb-false}
 use Rattle.std.specs.Prelude.{if◌then◌else◌}
 use Rattle.split.specs.Split.{before, after, split, in_front}
-
--- ---- One byte at a time
-
-pub before_hit :
-    (mark : ℕ) (s : List ℕ) (i : ℕ) → i < length s → get_or s i 0 ≡ mark → before mark (drop i s) ≡ []
-unfolding before
-before_hit mark s i h e = rw (drop-cons s i 0 h) (simp (eq-eqb _ _ e))
-
-pub before-miss :
-    (mark : ℕ) (s : List ℕ) (i : ℕ) → i < length s → (get_or s i 0 ≡ mark → ⊥)
-    → length (before mark (drop i s)) ≡ suc (length (before mark (drop (suc i) s)))
-unfolding before
-before-miss mark s i h e = rw (drop-cons s i 0 h) (simp (ne_eqb _ _ e))
 
 -- ---- The first part and what follows it
 
@@ -25,6 +13,24 @@ before_le mark [] = zero-le
 before_le mark (c ∷ cs) =
     elim (eqb c mark) as (λ t. length (if t then [] else c ∷ before mark cs) ≤ suc (length cs))
     [ true ↦ zero-le | false ↦ suc-le-suc (before_le mark cs) ]
+
+before-first : (mark : ℕ) (s : List ℕ) → position_or_len (λ c. eqb c mark) s ≡ length (before mark s)
+unfolding before
+before-first mark [] = refl
+before-first mark (c ∷ cs) =
+    elim (eqb c mark) as
+    (λ t. (if not t then 1 + position_or_len (λ c. eqb c mark) cs else 0) ≡ length (if t then [] else c ∷ before mark cs))
+    [ true ↦ refl | false ↦ omega (arith, before-first mark cs) ]
+
+-- where the first mark stands, or all ends, so many bytes stand before it
+pub position-before : (mark : ℕ) (s : List ℕ) → unwrap_or (position (λ c. eqb c mark) s) (length s) ≡ length (before mark s)
+position-before mark s =
+    let first : ℕ = position_or_len (λ c. eqb c mark) s in
+    elim (ltb first (length s)) as (λ t. ltb first (length s) ≡ t → unwrap_or (if t then Some first else None) (length s) ≡ length (before mark s)) [
+      | true ↦ λ e. before-first mark s
+      | false ↦ λ e. omega (arith, before-first mark s, before_le mark s, ltb-false first (length s) e)
+    ]
+    refl
 
 -- the part before the first mark is as many bytes of the list as it has
 pub take-before : (mark : ℕ) (s : List ℕ) → take (length (before mark s)) s ≡ before mark s

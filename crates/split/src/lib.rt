@@ -17,14 +17,10 @@ pub const LINE_FEED: u8 = b'\n';
 pub fn end_of(bytes: &[u8], mark: u8) -> usize
     ensures { result ≡ length (before mark bytes.now) }
 {
-    let mut i = 0;
-    while i < bytes.len() {
-        if bytes[i] == mark {
-            return i;
-        }
-        i += 1;
-    }
-    i
+    bytes
+        .iter()
+        .position(|&byte| byte == mark)
+        .unwrap_or(bytes.len())
 }
 
 // The first `end` bytes: the line, or the field, that ends there.

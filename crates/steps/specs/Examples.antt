@@ -1,7 +1,8 @@
 -- Lines in an order, each with its refusal: rules 19.3, 19.4, 19.6 to 19.10.
-use Rattle.std.specs.Prelude.{ℕ, ◌≡◌, refl, List, [], ◌∷◌, eqb}
+use Rattle.std.specs.Prelude.{◌≡◌, refl, Option, List, [], ◌∷◌}
 use Rattle.std.specs.Prelude.{if◌then◌else◌}
-use Rattle.refusals.specs.Refusals.{accepted, refused_order}
+use Rattle.refusals.specs.declared.Refusal.{Refusal}
+use Rattle.refusals.specs.Refusals.{accepted, refused_order, refused_size, refused_full, is_refused}
 use Rattle.registers.specs.declared.RegType.TheVariants.{Temp, Perm}
 use Rattle.instructions.specs.declared.Instruction.TheVariants.{GetVariable, PutVariable, PutValue, PutUnsafeValue, SetVariable, SetValue, UnifyValue}
 use Rattle.steps.specs.declared.Step.TheVariants.{Head, HeadDeep, Goal, GoalDeep, Call}
@@ -10,10 +11,10 @@ use Rattle.steps.specs.declared.CheckLine.TheVariants.{Begins, Does}
 use Rattle.steps.specs.Steps.{steps_of, instructions_of, past_head, in_goal, number_taken, is_uncalled, refusal_of}
 
 -- the refusal of each line behind those before it that were accepted, and then the sheet's
-unfoldable pub refusals_from : List CheckLine → List CheckLine → List ℕ
+unfoldable pub refusals_from : List CheckLine → List CheckLine → List (Option Refusal)
 refusals_from earlier [] = (if is_uncalled (steps_of earlier) then refused_order else accepted) ∷ []
 refusals_from earlier (line ∷ lines) =
-    refusal_of earlier line ∷ refusals_from (if eqb (refusal_of earlier line) accepted then line ∷ earlier else earlier) lines
+    refusal_of earlier line ∷ refusals_from (if is_refused (refusal_of earlier line) then earlier else line ∷ earlier) lines
 
 -- no head step behind a goal step; the same argument again only behind `call`, and order before size
 pub goals :
@@ -30,7 +31,19 @@ pub goals :
     ∷ Begins (Goal 1 64)
     ∷ Begins (Goal 1 0)
     ∷ [])
-    ≡ 2 ∷ 0 ∷ 0 ∷ 0 ∷ 2 ∷ 2 ∷ 3 ∷ 0 ∷ 2 ∷ 3 ∷ 0 ∷ 2 ∷ []
+    ≡ refused_order
+    ∷ accepted
+    ∷ accepted
+    ∷ accepted
+    ∷ refused_order
+    ∷ refused_order
+    ∷ refused_size
+    ∷ accepted
+    ∷ refused_order
+    ∷ refused_size
+    ∷ accepted
+    ∷ refused_order
+    ∷ []
 unfolding refusals_from refusal_of steps_of instructions_of past_head in_goal number_taken is_uncalled
 goals = refl
 
@@ -52,6 +65,21 @@ pub step_numbers :
     ∷ Does (SetVariable (Temp 1))
     ∷ Begins Call
     ∷ [])
-    ≡ 0 ∷ 0 ∷ 2 ∷ 2 ∷ 3 ∷ 0 ∷ 0 ∷ 3 ∷ 0 ∷ 3 ∷ 7 ∷ 0 ∷ 0 ∷ 0 ∷ 0 ∷ []
+    ≡ accepted
+    ∷ accepted
+    ∷ refused_order
+    ∷ refused_order
+    ∷ refused_size
+    ∷ accepted
+    ∷ accepted
+    ∷ refused_size
+    ∷ accepted
+    ∷ refused_size
+    ∷ refused_full
+    ∷ accepted
+    ∷ accepted
+    ∷ accepted
+    ∷ accepted
+    ∷ []
 unfolding refusals_from refusal_of steps_of instructions_of past_head in_goal number_taken is_uncalled
 step_numbers = refl

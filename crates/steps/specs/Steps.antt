@@ -1,7 +1,8 @@
 -- The lines of a check sheet, and what refuses one behind the lines before it: rules 3.15, 3.16, 4.12, 19.3 to 19.10.
 -- Lines and steps that stand before are listed with the last one first.
-use Rattle.std.specs.Prelude.{ℕ, Bool, true, false, not, ◌&&◌, ◌||◌, List, [], ◌∷◌, eqb, leb, ltb, length}
+use Rattle.std.specs.Prelude.{ℕ, Bool, true, false, not, ◌&&◌, ◌||◌, Option, List, [], ◌∷◌, eqb, leb, ltb, length}
 use Rattle.std.specs.Prelude.{if◌then◌else◌}
+use Rattle.refusals.specs.declared.Refusal.{Refusal}
 use Rattle.refusals.specs.Refusals.{accepted, refused_order, refused_size, refused_full}
 use Rattle.sizes.specs.Sizes.{variables, steps as step_lines, instructions as step_instructions, is_register}
 use Rattle.registers.specs.declared.RegType.{RegType}
@@ -164,11 +165,11 @@ is_full earlier (Does instruction) = leb step_instructions (length (instructions
 
 -- ---- 2, 3, then 7: rule 4.12
 
-abbrev pub first_of : Bool → Bool → Bool → ℕ
+abbrev pub first_of : Bool → Bool → Bool → Option Refusal
 first_of out_of_order in_size full =
     if out_of_order
     then refused_order
     else if not in_size then refused_size else if full then refused_full else accepted
 
-unfoldable pub refusal_of : List CheckLine → CheckLine → ℕ
+unfoldable pub refusal_of : List CheckLine → CheckLine → Option Refusal
 refusal_of earlier line = first_of (is_out_of_order earlier line) (fits line) (is_full earlier line)

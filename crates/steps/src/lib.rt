@@ -1,7 +1,7 @@
 // A line of a check sheet, and what refuses it: the lines before it, its numbers, and what is full.
 #![tactic(auto)]
 
-ghost use Rattle.std.specs.Prelude.{◌<◌, ◌≡◌, false, ◌&&◌, ◌||◌};
+ghost use Rattle.std.specs.Prelude.{◌<◌, ◌≡◌, false, ◌&&◌};
 ghost use Rattle.sizes.specs.Sizes.{steps as step_lines, instructions as step_instructions, is_register};
 ghost use Rattle.steps.specs.Steps.{
   is_put_or_set,
@@ -14,6 +14,7 @@ ghost use Rattle.steps.specs.Steps.{
 };
 ghost use Rattle.steps.specs.Order.{
   kind_of,
+  is_past_head,
   step_breaks,
   misplaced_under,
   breaks_order,
@@ -31,17 +32,9 @@ ghost use Rattle.steps.specs.Order.{
 
 use bit_set::BitSet;
 use instructions::Instruction;
+use refusals::Refusal;
 use registers::RegType;
 use sizes::{INSTRUCTIONS, STEPS, VARIABLES};
-
-// The kinds of step.
-pub const NO_STEP: u32 = 0;
-
-pub const HEAD_STEP: u32 = 1;
-
-pub const GOAL_STEP: u32 = 2;
-
-pub const CALL_STEP: u32 = 3;
 
 // A step line: argument k or a deep subterm is variable v, in the head or in a goal; or the goal is called.
 #[derive(Clone, Copy)]
@@ -60,22 +53,32 @@ pub enum CheckLine {
     Does(Instruction),
 }
 
+// What the last step line is.
+#[derive(Clone, Copy, PartialEq, Eq)]
+pub enum Kind {
+    NoStep,
+    HeadStep,
+    GoalStep,
+    CallStep,
+}
+
 // What the lines so far say of the next one: how many step lines there are; the kind of the last one, how many instructions
 // stand under it, and whether one of them takes the step's number; and the arguments of the goal since the last `call`.
 #[derive(Clone, Copy)]
 pub struct Order {
     pub steps: u32,
-    pub kind: u32,
+    pub kind: Kind,
     pub instructions: u32,
     pub number_taken: bool,
     pub goal: BitSet,
 }
 
-// The lines' order with a line that is accepted, or as it was; and the line's refusal.
+// The lines' order with a line that is accepted, or as it was; and the line's refusal. A struct and no Result, since the order
+// is told of a refused line, too.
 #[derive(Clone, Copy)]
 pub struct Judged {
     pub order: Order,
-    pub refusal: u32,
+    pub refusal: Option<Refusal>,
 }
 
 // Before the first line.
@@ -84,35 +87,23 @@ pub fn fresh_order() -> Order
 {
     Order {
         steps: 0,
-        kind: NO_STEP,
+        kind: Kind::NoStep,
         instructions: 0,
         number_taken: false,
         goal: bit_set::empty(),
     }
 }
 
-// Whether one of two things holds.
-fn either(first: bool, second: bool) -> bool
-    ensures { result ≡ (first || second) }
-{
-    if first {
-        return true;
-    }
-    second
-}
-
 // ---- Order
 
 // The kind of a step.
-fn kind_of(step: Step) -> u32
+fn kind_of(step: Step) -> Kind
     ensures { result ≡ kind_of step }
 {
     match step {
-        Step::Head(_, _) => HEAD_STEP,
-        Step::HeadDeep(_) => HEAD_STEP,
-        Step::Goal(_, _) => GOAL_STEP,
-        Step::GoalDeep(_) => GOAL_STEP,
-        Step::Call => CALL_STEP,
+        Step::Head(_, _) | Step::HeadDeep(_) => Kind::HeadStep,
+        Step::Goal(_, _) | Step::GoalDeep(_) => Kind::GoalStep,
+        Step::Call => Kind::CallStep,
     }
 }
 
@@ -120,57 +111,49 @@ fn kind_of(step: Step) -> u32
 fn is_put_or_set(instruction: Instruction) -> bool
     ensures { result ≡ is_put_or_set instruction }
 {
-    match instruction {
-        Instruction::GetVariable(_, _) => false,
-        Instruction::GetValue(_, _) => false,
-        Instruction::PutVariable(_, _) => true,
-        Instruction::PutValue(_, _) => true,
-        Instruction::PutUnsafeValue(_, _) => true,
-        Instruction::SetVariable(_) => true,
-        Instruction::SetValue(_) => true,
-        Instruction::SetLocalValue(_) => true,
-        Instruction::UnifyVariable(_) => false,
-        Instruction::UnifyValue(_) => false,
-        Instruction::UnifyLocalValue(_) => false,
-    }
+    matches!(
+        instruction,
+        Instruction::PutVariable(_, _)
+            | Instruction::PutValue(_, _)
+            | Instruction::PutUnsafeValue(_, _)
+            | Instruction::SetVariable(_)
+            | Instruction::SetValue(_)
+            | Instruction::SetLocalValue(_)
+    )
 }
 
 // Whether it is `get_value` or a Unify.
 fn is_get_value_or_unify(instruction: Instruction) -> bool
     ensures { result ≡ is_get_value_or_unify instruction }
 {
-    match instruction {
-        Instruction::GetVariable(_, _) => false,
-        Instruction::GetValue(_, _) => true,
-        Instruction::PutVariable(_, _) => false,
-        Instruction::PutValue(_, _) => false,
-        Instruction::PutUnsafeValue(_, _) => false,
-        Instruction::SetVariable(_) => false,
-        Instruction::SetValue(_) => false,
-        Instruction::SetLocalValue(_) => false,
-        Instruction::UnifyVariable(_) => true,
-        Instruction::UnifyValue(_) => true,
-        Instruction::UnifyLocalValue(_) => true,
-    }
+    matches!(
+        instruction,
+        Instruction::GetValue(_, _)
+            | Instruction::UnifyVariable(_)
+            | Instruction::UnifyValue(_)
+            | Instruction::UnifyLocalValue(_)
+    )
 }
 
 // Whether it is `put_variable`, `set_variable` or a Unify: these take the step's number.
 fn takes_number(instruction: Instruction) -> bool
     ensures { result ≡ takes_number instruction }
 {
-    match instruction {
-        Instruction::GetVariable(_, _) => false,
-        Instruction::GetValue(_, _) => false,
-        Instruction::PutVariable(_, _) => true,
-        Instruction::PutValue(_, _) => false,
-        Instruction::PutUnsafeValue(_, _) => false,
-        Instruction::SetVariable(_) => true,
-        Instruction::SetValue(_) => false,
-        Instruction::SetLocalValue(_) => false,
-        Instruction::UnifyVariable(_) => true,
-        Instruction::UnifyValue(_) => true,
-        Instruction::UnifyLocalValue(_) => true,
-    }
+    matches!(
+        instruction,
+        Instruction::PutVariable(_, _)
+            | Instruction::SetVariable(_)
+            | Instruction::UnifyVariable(_)
+            | Instruction::UnifyValue(_)
+            | Instruction::UnifyLocalValue(_)
+    )
+}
+
+// Whether a step of a kind ends the head.
+fn is_past_head(kind: Kind) -> bool
+    ensures { result ≡ is_past_head kind }
+{
+    matches!(kind, Kind::GoalStep | Kind::CallStep)
 }
 
 // Whether a step is out of order: a head step after a goal step or a call, or an argument that the goal has already.
@@ -178,22 +161,21 @@ fn step_breaks(order: Order, step: Step) -> bool
     ensures { result ≡ step_breaks order step }
 {
     match step {
-        Step::Head(_, _) => GOAL_STEP <= order.kind,
-        Step::HeadDeep(_) => GOAL_STEP <= order.kind,
+        Step::Head(_, _) | Step::HeadDeep(_) => is_past_head(order.kind),
         Step::Goal(k, _) => bit_set::contains(order.goal, k),
-        Step::GoalDeep(_) => false,
-        Step::Call => false,
+        Step::GoalDeep(_) | Step::Call => false,
     }
 }
 
 // Whether an instruction may not stand under a step of a kind.
-fn is_misplaced(kind: u32, instruction: Instruction) -> bool
+#[tactic(auto, unfolding(crate::specs::Order::misplaced_under))]
+fn is_misplaced(kind: Kind, instruction: Instruction) -> bool
     ensures { result ≡ misplaced_under kind instruction }
 {
     match kind {
-        HEAD_STEP => is_put_or_set(instruction),
-        GOAL_STEP => is_get_value_or_unify(instruction),
-        _ => true,
+        Kind::HeadStep => is_put_or_set(instruction),
+        Kind::GoalStep => is_get_value_or_unify(instruction),
+        Kind::NoStep | Kind::CallStep => true,
     }
 }
 
@@ -203,10 +185,10 @@ fn breaks_order(order: Order, line: CheckLine) -> bool
 {
     match line {
         CheckLine::Begins(step) => step_breaks(order, step),
-        CheckLine::Does(instruction) => either(
-            is_misplaced(order.kind, instruction),
-            sizes::both(order.number_taken, takes_number(instruction)),
-        ),
+        CheckLine::Does(instruction) => {
+            is_misplaced(order.kind, instruction)
+                || (order.number_taken && takes_number(instruction))
+        }
     }
 }
 
@@ -217,8 +199,7 @@ fn place_fits(place: RegType) -> bool
     ensures { result ≡ place_fits place }
 {
     match place {
-        RegType::Temp(r) => sizes::is_register(r),
-        RegType::Perm(r) => sizes::is_register(r),
+        RegType::Temp(r) | RegType::Perm(r) => sizes::is_register(r),
     }
 }
 
@@ -227,10 +208,8 @@ fn step_fits(step: Step) -> bool
     ensures { result ≡ step_fits step }
 {
     match step {
-        Step::Head(k, v) => sizes::both(sizes::is_register(k), v < VARIABLES as u32),
-        Step::HeadDeep(v) => v < VARIABLES as u32,
-        Step::Goal(k, v) => sizes::both(sizes::is_register(k), v < VARIABLES as u32),
-        Step::GoalDeep(v) => v < VARIABLES as u32,
+        Step::Head(k, v) | Step::Goal(k, v) => sizes::is_register(k) && v < VARIABLES as u32,
+        Step::HeadDeep(v) | Step::GoalDeep(v) => v < VARIABLES as u32,
         Step::Call => true,
     }
 }
@@ -239,7 +218,7 @@ fn step_fits(step: Step) -> bool
 fn place_and_argument_fit(place: RegType, k: u32) -> bool
     ensures { result ≡ (place_fits place && is_register k) }
 {
-    sizes::both(place_fits(place), sizes::is_register(k))
+    place_fits(place) && sizes::is_register(k)
 }
 
 // Whether every number of an instruction is inside its size.
@@ -247,20 +226,17 @@ fn instruction_fits(instruction: Instruction) -> bool
     ensures { result ≡ instruction_fits instruction }
 {
     match instruction {
-        Instruction::GetVariable(place, k) => place_and_argument_fit(place, k),
-        Instruction::GetValue(place, k) => place_and_argument_fit(place, k),
-        Instruction::PutVariable(place, k) => place_and_argument_fit(place, k),
-        Instruction::PutValue(place, k) => place_and_argument_fit(place, k),
-        Instruction::PutUnsafeValue(slot, k) => sizes::both(
-            sizes::is_register(slot),
-            sizes::is_register(k),
-        ),
-        Instruction::SetVariable(place) => place_fits(place),
-        Instruction::SetValue(place) => place_fits(place),
-        Instruction::SetLocalValue(place) => place_fits(place),
-        Instruction::UnifyVariable(place) => place_fits(place),
-        Instruction::UnifyValue(place) => place_fits(place),
-        Instruction::UnifyLocalValue(place) => place_fits(place),
+        Instruction::GetVariable(place, k)
+        | Instruction::GetValue(place, k)
+        | Instruction::PutVariable(place, k)
+        | Instruction::PutValue(place, k) => place_and_argument_fit(place, k),
+        Instruction::PutUnsafeValue(slot, k) => sizes::is_register(slot) && sizes::is_register(k),
+        Instruction::SetVariable(place)
+        | Instruction::SetValue(place)
+        | Instruction::SetLocalValue(place)
+        | Instruction::UnifyVariable(place)
+        | Instruction::UnifyValue(place)
+        | Instruction::UnifyLocalValue(place) => place_fits(place),
     }
 }
 
@@ -287,19 +263,20 @@ fn overfills(order: Order, line: CheckLine) -> bool
 }
 
 // The refusal of a line: by its order, then by its sizes, then by what is full.
-fn refusal_by(order: Order, line: CheckLine) -> u32
+#[tactic(auto, unfolding(crate::specs::Order::refusal_by))]
+fn refusal_by(order: Order, line: CheckLine) -> Option<Refusal>
     ensures { result ≡ refusal_by order line }
 {
-    match breaks_order(order, line) {
-        true => refusals::ORDER,
-        false => match fits(line) {
-            false => refusals::SIZE,
-            true => match overfills(order, line) {
-                true => refusals::FULL,
-                false => refusals::ACCEPTED,
-            },
-        },
+    if breaks_order(order, line) {
+        return Some(Refusal::Order);
     }
+    if !fits(line) {
+        return Some(Refusal::Size);
+    }
+    if overfills(order, line) {
+        return Some(Refusal::Full);
+    }
+    None
 }
 
 // The arguments of the goal with a step's; `call` ends the goal.
@@ -309,9 +286,7 @@ fn goal_after(goal: BitSet, step: Step) -> BitSet
     match step {
         Step::Goal(k, _) => bit_set::insert(goal, k),
         Step::Call => bit_set::empty(),
-        Step::Head(_, _) => goal,
-        Step::HeadDeep(_) => goal,
-        Step::GoalDeep(_) => goal,
+        Step::Head(_, _) | Step::HeadDeep(_) | Step::GoalDeep(_) => goal,
     }
 }
 
@@ -335,16 +310,14 @@ fn done(order: Order, instruction: Instruction) -> Order
     ensures { result ≡ done order instruction }
 {
     Order {
-        steps: order.steps,
-        kind: order.kind,
         instructions: order.instructions + 1,
-        number_taken: either(order.number_taken, takes_number(instruction)),
-        goal: order.goal,
+        number_taken: order.number_taken || takes_number(instruction),
+        ..order
     }
 }
 
 // An order and a refusal.
-fn with_refusal(order: Order, refusal: u32) -> Judged
+fn with_refusal(order: Order, refusal: Option<Refusal>) -> Judged
     ensures { result ≡ with_refusal order refusal }
 {
     Judged { order, refusal }
@@ -362,23 +335,24 @@ fn following(order: Order, line: CheckLine) -> Order
 }
 
 // The refusal of the next line, and the order with it where it is accepted.
+#[tactic(auto, unfolding(crate::specs::Order::judged, crate::specs::Order::judged_as))]
 pub fn judge(order: Order, line: CheckLine) -> Judged
     ensures { result ≡ judged order line }
 {
     let refusal = refusal_by(order, line);
     match refusal {
-        refusals::ACCEPTED => with_refusal(following(order, line), refusal),
-        _ => with_refusal(order, refusal),
+        None => with_refusal(following(order, line), refusal),
+        Some(_) => with_refusal(order, refusal),
     }
 }
 
 // The refusal of a sheet that ends here: goal steps have no `call` after them.
-pub fn refusal_at_end(order: Order) -> u32
+#[tactic(auto, unfolding(crate::specs::Order::refusal_at_end))]
+pub fn refusal_at_end(order: Order) -> Option<Refusal>
     ensures { result ≡ refusal_at_end order }
 {
-    let kind = order.kind;
-    match kind {
-        GOAL_STEP => refusals::ORDER,
-        _ => refusals::ACCEPTED,
+    match order.kind {
+        Kind::GoalStep => Some(Refusal::Order),
+        Kind::NoStep | Kind::HeadStep | Kind::CallStep => None,
     }
 }

@@ -1,4 +1,3 @@
 pub mod Names
 pub mod Symbolic
-pub mod Tables
 pub mod TablesLaws

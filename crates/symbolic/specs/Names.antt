@@ -21,11 +21,11 @@ place_cells = 3 * (registers + 1)
 abbrev pub call_name : ℕ → ℕ → ℕ
 call_name call r = place_cells * call + place_name (Temp r)
 
--- in the place of a variable's value that no step has fixed; the same number may name what a call left in a register, which is
--- never a variable's value
+-- no place and no step has this name, or a larger one; what a call left in a register may have it, which is never a variable's
+-- value
 abbrev pub no_name : ℕ
 no_name = 3 * (steps + 1)
 
--- cells for pairs: two for each line of a sheet, a step line and its instructions for each step
+-- cells for pairs: one for each line of a sheet, a step line and its instructions for each step
 abbrev pub pair_cells : ℕ
-pair_cells = 2 * (steps * (instructions + 1))
+pair_cells = steps * (instructions + 1)

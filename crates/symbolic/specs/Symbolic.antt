@@ -1,9 +1,11 @@
 -- The run of a check sheet on names: each place, each step's number and what a call leaves in each register stands for itself,
 -- and everything that the machine ever holds is a name. Both sides of the sheet are carried along, line by line.
-use Rattle.std.specs.Prelude.{ℕ, zero, suc, ◌+◌, Bool, true, ◌&&◌, List, [], ◌∷◌, eqb, ltb, get_or, set, take, replicate}
+use Rattle.std.specs.Prelude.{ℕ, zero, suc, ◌+◌, Bool, true, not, ◌&&◌, Option, Some, None, List, [], ◌∷◌, ltb, get_or, set, take, replicate}
 use Rattle.std.specs.Prelude.{if◌then◌else◌}
+use Rattle.std.specs.Option.{unwrap_or}
 use Rattle.notation.specs.Lists.{numbers_from}
-use Rattle.refusals.specs.Refusals.{accepted, refused_full}
+use Rattle.refusals.specs.declared.Refusal.{Refusal}
+use Rattle.refusals.specs.Refusals.{accepted, refused_full, is_refused}
 use Rattle.sizes.specs.Sizes.{registers, variables, steps}
 use Rattle.registers.specs.declared.RegType.{RegType}
 use Rattle.registers.specs.declared.RegType.TheVariants.{Temp, Perm}
@@ -16,38 +18,26 @@ use Rattle.steps.specs.declared.CheckLine.TheVariants.{Begins, Does}
 use Rattle.steps.specs.declared.Order.{Order}
 use Rattle.steps.specs.declared.Judged.{Judged}
 use Rattle.steps.specs.Order.{judged}
-use Rattle.classes.specs.Classes.{pairs_of}
-use Rattle.symbolic.specs.Names.{place_name, step_name, place_cells, call_name, no_name, pair_cells}
+use Rattle.symbolic.specs.declared.Pairs.{Pairs}
+use Rattle.symbolic.specs.declared.Doing.{Doing}
+use Rattle.symbolic.specs.declared.Wanting.{Wanting}
+use Rattle.symbolic.specs.declared.Symbols.{Symbols}
+use Rattle.symbolic.specs.Names.{place_name, step_name, place_cells, call_name, pair_cells}
 
--- ---- Pairs of numbers in a table, two cells each, and how many cells count
+-- ---- Pairs of numbers in a table, and how many of its cells count
 
-pub record Pairs : Type 0 where
-  pub cells : List ℕ
-  pub count : ℕ
-
-abbrev pub pairs : List ℕ → ℕ → Pairs
+abbrev pub pairs : List (ℕ × ℕ) → ℕ → Pairs
 pairs cells count = record { cells = cells; count = count }
 
 -- one pair more; a table that is full stays as it is
 unfoldable pub pushed : Pairs → ℕ → ℕ → Pairs
-pushed p a b =
-    if ltb (p.count + 1) pair_cells
-    then pairs (set (set p.cells p.count a) (p.count + 1) b) (p.count + 2)
-    else p
+pushed p a b = if ltb p.count pair_cells then pairs (set p.cells p.count (a, b)) (p.count + 1) else p
 
 -- the pairs that count, in order
 unfoldable pub listed : Pairs → List (ℕ × ℕ)
-listed p = pairs_of (take p.count p.cells)
+listed p = take p.count p.cells
 
 -- ---- What the instructions do
-
-pub record Doing : Type 0 where
-  -- the name that each place holds, at the place's own name
-  pub places : List ℕ
-  -- the equalities demanded
-  pub demands : Pairs
-  -- the subterm list: a step and a name
-  pub made : Pairs
 
 abbrev pub doing : List ℕ → Pairs → Pairs → Doing
 doing places demands made = record { places = places; demands = demands; made = made }
@@ -86,36 +76,27 @@ spoilt_at step places Call = spoilt_up_to step registers places
 
 -- ---- What the steps want
 
-pub record Wanting : Type 0 where
-  -- the name that is each variable's value
-  pub values : List ℕ
-  -- the equalities wanted
-  pub wants : Pairs
-  -- the subterm list wanted: a step and a name
-  pub due : Pairs
-  -- the arguments of this goal: a register's number and the name that it has to hold
-  pub goal : Pairs
-
-abbrev pub wanting : List ℕ → Pairs → Pairs → Pairs → Wanting
+abbrev pub wanting : List (Option ℕ) → Pairs → Pairs → Pairs → Wanting
 wanting values wants due goal = record { values = values; wants = wants; due = due; goal = goal }
 
 -- a variable's value, where its step offers a name: its own, or the name where this step is its first
-unfoldable pub value_of : ℕ → ℕ → ℕ
-value_of value offered = if eqb value no_name then offered else value
+unfoldable pub value_of : Option ℕ → ℕ → ℕ
+value_of value offered = unwrap_or value offered
 
 -- a later head step demands equality
-unfoldable pub again : Pairs → ℕ → ℕ → Pairs
-again wants value offered = if eqb value no_name then wants else pushed wants value offered
+unfoldable pub again : Pairs → Option ℕ → ℕ → Pairs
+again wants None offered = wants
+again wants (Some value) offered = pushed wants value offered
 
 module _ (w : Wanting) (v : ℕ) (offered : ℕ) where
   abbrev pub value : ℕ
-  value = value_of (get_or w.values v 0) offered
+  value = value_of (get_or w.values v None) offered
 
-  abbrev pub valued : List ℕ
-  valued = set w.values v value
+  abbrev pub valued : List (Option ℕ)
+  valued = set w.values v (Some value)
 
   abbrev pub demanded : Pairs
-  demanded = again w.wants (get_or w.values v 0) offered
+  demanded = again w.wants (get_or w.values v None) offered
 
 abbrev pub wanted : ℕ → Wanting → Step → Wanting
 wanted step w (Head k v) = wanting (valued w v (place_name (Temp k))) (demanded w v (place_name (Temp k))) w.due w.goal
@@ -138,12 +119,6 @@ claimed_at places claims goal Call = claimed places claims (listed goal)
 
 -- ---- Both, line by line
 
-pub record Symbols : Type 0 where
-  pub doing : Doing
-  pub wanting : Wanting
-  -- what the calls read: the name that an argument holds and the one that it has to hold
-  pub claims : Pairs
-
 abbrev pub symbols : Doing → Wanting → Pairs → Symbols
 symbols doing wanting claims = record { doing = doing; wanting = wanting; claims = claims }
 
@@ -158,13 +133,13 @@ carried step s (Does instruction) = symbols (did step s.doing instruction) s.wan
 
 -- at the start every place holds its own name, and nothing is demanded or wanted
 abbrev pub no_pairs : Pairs
-no_pairs = pairs (replicate pair_cells 0) 0
+no_pairs = pairs (replicate pair_cells (0, 0)) 0
 
 abbrev pub fresh_symbols : Symbols
 fresh_symbols =
     symbols
     (doing (numbers_from 0 place_cells) no_pairs no_pairs)
-    (wanting (replicate variables no_name) no_pairs no_pairs no_pairs)
+    (wanting (replicate variables None) no_pairs no_pairs no_pairs)
     no_pairs
 
 -- ---- A line judged, and carried out where it is accepted
@@ -172,14 +147,18 @@ fresh_symbols =
 pub record Taking : Type 0 where
   pub order : Order
   pub symbols : Symbols
-  pub refusal : ℕ
+  pub refusal : Option Refusal
 
-abbrev pub taking : Order → Symbols → ℕ → Taking
+abbrev pub taking : Order → Symbols → Option Refusal → Taking
 taking order symbols refusal = record { order = order; symbols = symbols; refusal = refusal }
+
+-- the symbols after a line, with the order and the refusal that it is answered with
+abbrev pub taking_of : Symbols → Judged → Taking
+taking_of symbols judged = taking judged.order symbols judged.refusal
 
 unfoldable pub taken_as : Symbols → CheckLine → Judged → Taking
 taken_as s line j =
-    if ltb 0 j.refusal then taking j.order s j.refusal
+    if is_refused j.refusal then taking j.order s j.refusal
     else taking j.order (carried j.order.steps s line) accepted
 
 -- an order of more step lines than there are names for, which no lines lead to, is full
@@ -189,7 +168,7 @@ taken order s line = if ltb steps order.steps then taking order s refused_full e
 -- lines one after the other, each of which is accepted
 unfoldable pub all_accepted : Order → List CheckLine → Bool
 all_accepted order [] = true
-all_accepted order (line ∷ lines) = eqb (judged order line).refusal accepted && all_accepted (judged order line).order lines
+all_accepted order (line ∷ lines) = not (is_refused (judged order line).refusal) && all_accepted (judged order line).order lines
 
 unfoldable pub carried_all : Order → Symbols → List CheckLine → Symbols
 carried_all order s [] = s

@@ -1,15 +1,13 @@
-// The run of a check sheet on names, over lent tables: both sides of the sheet, line by line.
+// The run of a check sheet on names: both sides of the sheet, line by line.
 #![tactic(auto)]
 
-ghost use Rattle.std.specs.Prelude.{◌≤◌, ◌≡◌, true, length, get_or, set};
+ghost use Rattle.std.specs.Prelude.{◌≤◌, ◌≡◌, true, length, get_or, set, Some, None};
 ghost use Rattle.notation.specs.Lists.{numbers_from};
 ghost use Rattle.sizes.specs.Sizes.{registers, steps as step_lines};
 ghost use Rattle.registers.specs.declared.RegType.TheVariants.{Temp};
 ghost use Rattle.steps.specs.Steps.{step_fits, fits};
-ghost use Rattle.classes.specs.Classes.{pairs_of};
 ghost use Rattle.symbolic.specs.Names.{place_name, step_name, place_cells, call_name};
 ghost use Rattle.symbolic.specs.Symbolic.{
-  pairs,
   pushed,
   listed,
   held,
@@ -23,71 +21,89 @@ ghost use Rattle.symbolic.specs.Symbolic.{
   claimed,
   claimed_at,
   carried,
-  taken,
-};
-ghost use Rattle.symbolic.specs.Tables.{
-  wanted_counts,
-  after_instruction,
-  after_step,
-  taken_with,
-  fresh_counts,
-  doing_of,
-  wanting_of,
-  symbols_of,
+  fresh_symbols,
   taking_of,
+  taken,
 };
 
 use instructions::Instruction;
+use refusals::Refusal;
 use registers::RegType;
 use sizes::{INSTRUCTIONS, LAST_REGISTER, STEPS, VARIABLES};
-use steps::{CheckLine, Order, Step};
+use steps::{CheckLine, Judged, Order, Step};
 
 // Cells for the contents of the places, each at its name.
 pub const PLACE_CELLS: usize = 3 * (LAST_REGISTER as usize + 1);
-// In the place of a variable's value that no step has fixed.
-pub const NO_NAME: u32 = 3 * (STEPS as u32 + 1);
-// Cells for pairs: two for each line of a sheet.
-pub const PAIR_CELLS: usize = 2 * (STEPS * (INSTRUCTIONS + 1));
+// Cells for pairs: one for each line of a sheet.
+pub const PAIR_CELLS: usize = STEPS * (INSTRUCTIONS + 1);
 
 // The name that each place holds.
 pub type Places = [u32; PLACE_CELLS];
-// The name that is each variable's value.
-pub type Values = [u32; VARIABLES];
-// Pairs of numbers, two cells each.
-pub type PairCells = [u32; PAIR_CELLS];
+// The name that is each variable's value, where a step has fixed one.
+pub type Values = [Option<u32>; VARIABLES];
 
-// How many cells of each table of pairs count.
+// Pairs of numbers in a table, and how many of its cells count: there is no heap, so the room is there from the start.
 #[derive(Clone, Copy)]
-pub struct Counts {
-    pub demands: usize,
-    pub made: usize,
-    pub wants: usize,
-    pub due: usize,
-    pub goal: usize,
-    pub claims: usize,
+pub struct Pairs {
+    pub cells: [(u32, u32); PAIR_CELLS],
+    pub count: usize,
 }
 
-// The counts of what the instructions do.
+// What the instructions do: the name that each place holds, the equalities demanded, and the subterm list, a step and a name.
 #[derive(Clone, Copy)]
-struct DoneCounts {
-    pub demands: usize,
-    pub made: usize,
+pub struct Doing {
+    pub places: Places,
+    pub demands: Pairs,
+    pub made: Pairs,
 }
 
-// The counts of what the steps want.
+// What the steps want: the name that is each variable's value, the equalities wanted, the subterm list wanted, a step and a
+// name, and the arguments of this goal, a register's number and the name that it has to hold.
 #[derive(Clone, Copy)]
-struct WantedCounts {
-    pub wants: usize,
-    pub due: usize,
-    pub goal: usize,
+pub struct Wanting {
+    pub values: Values,
+    pub wants: Pairs,
+    pub due: Pairs,
+    pub goal: Pairs,
 }
 
-// The outcome of a line, beside the tables.
+// Both sides, and what the calls read: the name that an argument holds and the one that it has to hold.
 #[derive(Clone, Copy)]
-pub struct Taken {
-    pub order: Order,
-    pub counts: Counts,
-    pub refusal: u32,
+pub struct Symbols {
+    pub doing: Doing,
+    pub wanting: Wanting,
+    pub claims: Pairs,
+}
+
+impl Pairs {
+    // One pair more; a table that is full stays as it is.
+    #[tactic(auto, unfolding(crate::specs::Symbolic::pushed))]
+    fn push(&mut self, a: u32, b: u32)
+        ensures { self.new ≡ pushed self.old a b }
+    {
+        if self.count < PAIR_CELLS {
+            self.cells[self.count] = (a, b);
+            self.count += 1;
+        }
+    }
+
+    // No pair counts any more.
+    fn clear(&mut self)
+        ensures { self.new ≡ record self.old { count = 0 } }
+    {
+        self.count = 0;
+    }
+
+    // The pairs that count, in order.
+    #[tactic(auto, using(std::proofs::Common::take_all), unfolding(crate::specs::Symbolic::listed))]
+    pub fn listed(&self) -> &[(u32, u32)]
+        ensures { result.now ≡ listed self.now }
+    {
+        if self.count < PAIR_CELLS {
+            return &self.cells[..self.count];
+        }
+        &self.cells
+    }
 }
 
 // ---- Names and cells
@@ -127,18 +143,14 @@ fn call_name(call: u32, r: u32) -> u32
 }
 
 // The name that a place holds.
-fn held(places: &[u32], place: RegType) -> u32
+fn held(places: &Places, place: RegType) -> u32
     ensures { result ≡ held places.now place }
 {
-    let cell = place_cell(place);
-    if cell < places.len() {
-        return places[cell];
-    }
-    0
+    places.get(place_cell(place)).copied().unwrap_or(0)
 }
 
 // Puts a name into a place.
-fn put(places: &mut [u32], place: RegType, name: u32)
+fn put(places: &mut Places, place: RegType, name: u32)
     ensures { places.new ≡ put places.old place name }
 {
     let cell = place_cell(place);
@@ -147,195 +159,114 @@ fn put(places: &mut [u32], place: RegType, name: u32)
     }
 }
 
-// The name that is a variable's value.
-fn value_at(values: &[u32], v: u32) -> u32
-    ensures { result ≡ get_or values.now v 0 }
+// The name that is a variable's value, where a step has fixed one.
+fn value_at(values: &Values, v: u32) -> Option<u32>
+    ensures { result ≡ get_or values.now v None }
 {
-    let cell = v as usize;
-    if cell < values.len() {
-        return values[cell];
-    }
-    0
+    values.get(v as usize).copied().unwrap_or(None)
 }
 
 // Makes a name a variable's value.
-fn write_value(values: &mut [u32], v: u32, name: u32)
-    ensures { values.new ≡ set values.old v name }
+fn write_value(values: &mut Values, v: u32, name: u32)
+    ensures { values.new ≡ set values.old v (Some name) }
 {
     let cell = v as usize;
     if cell < values.len() {
-        values[cell] = name;
+        values[cell] = Some(name);
     }
-}
-
-// One pair more, and how many cells count then; a table that is full stays as it is.
-fn push(cells: &mut PairCells, count: usize, a: u32, b: u32) -> usize
-    ensures { pairs cells.new result ≡ pushed (pairs cells.old count) a b }
-{
-    if count < PAIR_CELLS - 1 {
-        cells[count] = a;
-        cells[count + 1] = b;
-        return count + 2;
-    }
-    count
 }
 
 // ---- What the instructions do
 
 // Copies what a place holds to another one.
-fn copy(places: &mut Places, counts: DoneCounts, from: RegType, to: RegType) -> DoneCounts
-    ensures value { result ≡ counts }
-    ensures places_after { places.new ≡ put places.old to (held places.old from) }
+fn copy(places: &mut Places, from: RegType, to: RegType)
+    ensures { places.new ≡ put places.old to (held places.old from) }
 {
     let name = held(places, from);
     put(places, to, name);
-    counts
 }
 
 // `put_variable`: writes the step's number to a place and to register k.
-fn put_variable(
-    places: &mut Places,
-    counts: DoneCounts,
-    step: u32,
-    place: RegType,
-    k: u32,
-) -> DoneCounts
+fn put_variable(places: &mut Places, step: u32, place: RegType, k: u32)
     requires { step ≤ step_lines }
-    ensures value { result ≡ counts }
-    ensures places_after { places.new ≡ put (put places.old place (step_name step)) (Temp k) (step_name step) }
+    ensures { places.new ≡ put (put places.old place (step_name step)) (Temp k) (step_name step) }
 {
     let name = step_name(step);
     put(places, place, name);
     put(places, RegType::Temp(k), name);
-    counts
 }
 
 // `get_value`: demands that a place holds what register k holds.
-fn get_value(
-    places: &Places,
-    demands: &mut PairCells,
-    counts: DoneCounts,
-    place: RegType,
-    k: u32,
-) -> DoneCounts
-    ensures demands_after { pairs demands.new result.demands ≡ pushed (pairs demands.old counts.demands) (held places.now place) (held places.now (Temp k)) }
-    ensures made_value { result.made ≡ counts.made }
+fn get_value(doing: &mut Doing, place: RegType, k: u32)
+    ensures { doing.new ≡ record doing.old { demands = pushed doing.old.demands (held doing.old.places place) (held doing.old.places (Temp k)) } }
 {
-    let content = held(places, place);
-    let argument = held(places, RegType::Temp(k));
-    let demanded = push(demands, counts.demands, content, argument);
-    DoneCounts {
-        demands: demanded,
-        made: counts.made,
-    }
+    let content = held(&doing.places, place);
+    let argument = held(&doing.places, RegType::Temp(k));
+    doing.demands.push(content, argument);
 }
 
 // `set_variable` and `unify_variable`: writes the step's number to a place, and adds it to the subterm list.
-fn add_variable(
-    places: &mut Places,
-    made: &mut PairCells,
-    counts: DoneCounts,
-    step: u32,
-    place: RegType,
-) -> DoneCounts
+fn add_variable(doing: &mut Doing, step: u32, place: RegType)
     requires { step ≤ step_lines }
-    ensures places_after { places.new ≡ put places.old place (step_name step) }
-    ensures made_after { pairs made.new result.made ≡ pushed (pairs made.old counts.made) step (step_name step) }
-    ensures demands_value { result.demands ≡ counts.demands }
+    ensures { doing.new ≡ record doing.old { places = put doing.old.places place (step_name step); made = pushed doing.old.made step (step_name step) } }
 {
     let name = step_name(step);
-    put(places, place, name);
-    let added = push(made, counts.made, step, name);
-    DoneCounts {
-        demands: counts.demands,
-        made: added,
-    }
+    put(&mut doing.places, place, name);
+    doing.made.push(step, name);
 }
 
 // Set of a value: adds what a place holds to the subterm list.
-fn set_value(
-    places: &Places,
-    made: &mut PairCells,
-    counts: DoneCounts,
-    step: u32,
-    place: RegType,
-) -> DoneCounts
-    ensures made_after { pairs made.new result.made ≡ pushed (pairs made.old counts.made) step (held places.now place) }
-    ensures demands_value { result.demands ≡ counts.demands }
+fn set_value(doing: &mut Doing, step: u32, place: RegType)
+    ensures { doing.new ≡ record doing.old { made = pushed doing.old.made step (held doing.old.places place) } }
 {
-    let content = held(places, place);
-    let added = push(made, counts.made, step, content);
-    DoneCounts {
-        demands: counts.demands,
-        made: added,
-    }
+    let content = held(&doing.places, place);
+    doing.made.push(step, content);
 }
 
 // Unify of a value: demands that a place holds the step's number, and adds that to the subterm list.
-fn unify_value(
-    places: &Places,
-    demands: &mut PairCells,
-    made: &mut PairCells,
-    counts: DoneCounts,
-    step: u32,
-    place: RegType,
-) -> DoneCounts
+fn unify_value(doing: &mut Doing, step: u32, place: RegType)
     requires { step ≤ step_lines }
-    ensures demands_after { pairs demands.new result.demands ≡ pushed (pairs demands.old counts.demands) (held places.now place) (step_name step) }
-    ensures made_after { pairs made.new result.made ≡ pushed (pairs made.old counts.made) step (step_name step) }
+    ensures { doing.new ≡ record doing.old { demands = pushed doing.old.demands (held doing.old.places place) (step_name step); made = pushed doing.old.made step (step_name step) } }
 {
     let name = step_name(step);
-    let content = held(places, place);
-    let demanded = push(demands, counts.demands, content, name);
-    let added = push(made, counts.made, step, name);
-    DoneCounts {
-        demands: demanded,
-        made: added,
-    }
+    let content = held(&doing.places, place);
+    doing.demands.push(content, name);
+    doing.made.push(step, name);
 }
 
 // Carries out an instruction under a step.
-fn does(
-    places: &mut Places,
-    demands: &mut PairCells,
-    made: &mut PairCells,
-    counts: DoneCounts,
-    step: u32,
-    instruction: Instruction,
-) -> DoneCounts
+fn does(doing: &mut Doing, step: u32, instruction: Instruction)
     requires { step ≤ step_lines }
-    ensures { doing_of result places.new demands.new made.new ≡ did step (doing_of counts places.old demands.old made.old) instruction }
+    ensures { doing.new ≡ did step doing.old instruction }
 {
     match instruction {
-        Instruction::GetVariable(place, k) => copy(places, counts, RegType::Temp(k), place),
-        Instruction::GetValue(place, k) => get_value(places, demands, counts, place, k),
-        Instruction::PutVariable(place, k) => put_variable(places, counts, step, place, k),
-        Instruction::PutValue(place, k) => copy(places, counts, place, RegType::Temp(k)),
+        Instruction::GetVariable(place, k) => copy(&mut doing.places, RegType::Temp(k), place),
+        Instruction::GetValue(place, k) => get_value(doing, place, k),
+        Instruction::PutVariable(place, k) => put_variable(&mut doing.places, step, place, k),
+        Instruction::PutValue(place, k) => copy(&mut doing.places, place, RegType::Temp(k)),
         Instruction::PutUnsafeValue(slot, k) => copy(
-            places,
-            counts,
+            &mut doing.places,
             RegType::Perm(slot),
             RegType::Temp(k),
         ),
-        Instruction::SetVariable(place) => add_variable(places, made, counts, step, place),
-        Instruction::SetValue(place) => set_value(places, made, counts, step, place),
-        Instruction::SetLocalValue(place) => set_value(places, made, counts, step, place),
-        Instruction::UnifyVariable(place) => add_variable(places, made, counts, step, place),
-        Instruction::UnifyValue(place) => unify_value(places, demands, made, counts, step, place),
-        Instruction::UnifyLocalValue(place) => unify_value(
-            places, demands, made, counts, step, place,
+        Instruction::SetVariable(place) | Instruction::UnifyVariable(place) => add_variable(
+            doing, step, place,
+        ),
+        Instruction::SetValue(place) | Instruction::SetLocalValue(place) => set_value(
+            doing, step, place,
+        ),
+        Instruction::UnifyValue(place) | Instruction::UnifyLocalValue(place) => unify_value(
+            doing, step, place,
         ),
     }
 }
 
 // Puts into each register the name of what a call leaves there.
-fn spoil(places: &mut [u32], call: u32)
+fn spoil(places: &mut Places, call: u32)
     requires { call ≤ step_lines }
     ensures { places.new ≡ spoilt_up_to call registers places.old }
 {
-    let mut r: u32 = 0;
-    while r < LAST_REGISTER {
-        r += 1;
+    for r in 1..LAST_REGISTER + 1 {
         put(places, RegType::Temp(r), call_name(call, r));
     }
 }
@@ -343,294 +274,161 @@ fn spoil(places: &mut [u32], call: u32)
 // ---- What the steps want
 
 // Where a step is not its variable's first, demands that the variable's value is what the step offers.
-fn demand_again(values: &Values, wants: &mut PairCells, count: usize, v: u32, offered: u32) -> usize
-    ensures { pairs wants.new result ≡ again (pairs wants.old count) (get_or values.now v 0) offered }
+#[tactic(auto, unfolding(crate::specs::Symbolic::again))]
+fn demand_again(wanting: &mut Wanting, v: u32, offered: u32)
+    ensures { wanting.new ≡ record wanting.old { wants = again wanting.old.wants (get_or wanting.old.values v None) offered } }
 {
-    let value = value_at(values, v);
-    if value == NO_NAME {
-        return count;
+    if let Some(value) = value_at(&wanting.values, v) {
+        wanting.wants.push(value, offered);
     }
-    push(wants, count, value, offered)
 }
 
 // A variable's value, which is what its step offers where that is its first.
+#[tactic(auto, unfolding(crate::specs::Symbolic::value_of))]
 fn fix(values: &mut Values, v: u32, offered: u32) -> u32
-    ensures value { result ≡ value_of (get_or values.old v 0) offered }
-    ensures values_after { values.new ≡ set values.old v (value_of (get_or values.old v 0) offered) }
+    ensures value { result ≡ value_of (get_or values.old v None) offered }
+    ensures values_after { values.new ≡ set values.old v (Some (value_of (get_or values.old v None) offered)) }
 {
-    let value = value_at(values, v);
-    if value == NO_NAME {
-        write_value(values, v, offered);
-        return offered;
-    }
+    let value = value_at(values, v).unwrap_or(offered);
+    write_value(values, v, value);
     value
 }
 
-// Fixes a variable's value, and pushes it behind a number.
-fn push_value(
-    values: &mut Values,
-    cells: &mut PairCells,
-    count: usize,
-    number: u32,
-    v: u32,
-    offered: u32,
-) -> usize
-    ensures result_after { pairs cells.new result ≡ pushed (pairs cells.old count) number (value_of (get_or values.old v 0) offered) }
-    ensures values_after { values.new ≡ set values.old v (value_of (get_or values.old v 0) offered) }
-{
-    let value = fix(values, v, offered);
-    push(cells, count, number, value)
-}
-
-// The three counts together.
-fn wanted_counts(wants: usize, due: usize, goal: usize) -> WantedCounts
-    ensures { result ≡ wanted_counts wants due goal }
-{
-    WantedCounts { wants, due, goal }
-}
-
 // Carries out a step line on the side of what is wanted.
-fn want(
-    values: &mut Values,
-    wants: &mut PairCells,
-    due: &mut PairCells,
-    goal: &mut PairCells,
-    counts: WantedCounts,
-    step: u32,
-    begins: Step,
-) -> WantedCounts
+fn want(wanting: &mut Wanting, step: u32, begins: Step)
     requires { (step ≤ step_lines) × (step_fits begins ≡ true) }
-    ensures { wanting_of result values.new wants.new due.new goal.new ≡ wanted step (wanting_of counts values.old wants.old due.old goal.old) begins }
+    ensures { wanting.new ≡ wanted step wanting.old begins }
 {
     match begins {
         Step::Head(k, v) => {
             let name = register_name(k);
-            let demanded = demand_again(values, wants, counts.wants, v, name);
-            fix(values, v, name);
-            wanted_counts(demanded, counts.due, counts.goal)
+            demand_again(wanting, v, name);
+            fix(&mut wanting.values, v, name);
         }
         Step::HeadDeep(v) => {
             let name = step_name(step);
-            let demanded = demand_again(values, wants, counts.wants, v, name);
-            let added = push_value(values, due, counts.due, step, v, name);
-            wanted_counts(demanded, added, counts.goal)
+            demand_again(wanting, v, name);
+            let value = fix(&mut wanting.values, v, name);
+            wanting.due.push(step, value);
         }
         Step::Goal(k, v) => {
-            let added = push_value(values, goal, counts.goal, k, v, step_name(step));
-            wanted_counts(counts.wants, counts.due, added)
+            let value = fix(&mut wanting.values, v, step_name(step));
+            wanting.goal.push(k, value);
         }
         Step::GoalDeep(v) => {
-            let added = push_value(values, due, counts.due, step, v, step_name(step));
-            wanted_counts(counts.wants, added, counts.goal)
+            let value = fix(&mut wanting.values, v, step_name(step));
+            wanting.due.push(step, value);
         }
-        Step::Call => wanted_counts(counts.wants, counts.due, 0),
+        Step::Call => wanting.goal.clear(),
     }
 }
 
 // Of each argument, a register's number and the name that it has to hold, pushes what it holds and that name.
-fn claim(places: &Places, arguments: &[u32], claims: &mut PairCells, count: usize) -> usize
-    ensures { pairs claims.new result ≡ claimed places.now (pairs claims.old count) (pairs_of arguments.now) }
+fn claim(places: &Places, arguments: &[(u32, u32)], claims: &mut Pairs)
+    ensures { claims.new ≡ claimed places.now claims.old arguments.now }
 {
-    let mut n = count;
-    let mut i = 0;
-    while i + 1 < arguments.len() {
-        let content = held(places, RegType::Temp(arguments[i]));
-        n = push(claims, n, content, arguments[i + 1]);
-        i += 2;
+    for (k, name) in arguments {
+        claims.push(held(places, RegType::Temp(*k)), *name);
     }
-    n
-}
-
-// The same of all the arguments of this goal.
-fn claim_goal(
-    places: &Places,
-    goal: &[u32],
-    arguments: usize,
-    claims: &mut PairCells,
-    count: usize,
-) -> usize
-    ensures { pairs claims.new result ≡ claimed places.now (pairs claims.old count) (listed (pairs goal.now arguments)) }
-{
-    if arguments < goal.len() {
-        return claim(places, &goal[0..arguments], claims, count);
-    }
-    claim(places, goal, claims, count)
 }
 
 // At `call`, claims the arguments of this goal and then spoils the registers; at another step nothing.
-fn call_at(
-    places: &mut Places,
-    goal: &PairCells,
-    arguments: usize,
-    claims: &mut PairCells,
-    count: usize,
-    step: u32,
-    begins: Step,
-) -> usize
+fn call_at(places: &mut Places, goal: &Pairs, claims: &mut Pairs, step: u32, begins: Step)
     requires { step ≤ step_lines }
-    ensures result_after { pairs claims.new result ≡ claimed_at places.old (pairs claims.old count) (pairs goal.now arguments) begins }
+    ensures claims_after { claims.new ≡ claimed_at places.old claims.old goal.now begins }
     ensures places_after { places.new ≡ spoilt_at step places.old begins }
 {
     match begins {
-        Step::Head(_, _) => count,
-        Step::HeadDeep(_) => count,
-        Step::Goal(_, _) => count,
-        Step::GoalDeep(_) => count,
+        Step::Head(_, _) | Step::HeadDeep(_) | Step::Goal(_, _) | Step::GoalDeep(_) => {}
         Step::Call => {
-            let claimed = claim_goal(places, goal, arguments, claims, count);
+            claim(places, goal.listed(), claims);
             spoil(places, step);
-            claimed
         }
     }
 }
 
 // ---- Both, line by line
 
-// The counts with those of an instruction.
-fn after_instruction(counts: Counts, done: DoneCounts) -> Counts
-    ensures { result ≡ after_instruction counts done }
-{
-    Counts {
-        demands: done.demands,
-        made: done.made,
-        wants: counts.wants,
-        due: counts.due,
-        goal: counts.goal,
-        claims: counts.claims,
-    }
-}
-
-// The counts with those of a step.
-fn after_step(counts: Counts, wanted: WantedCounts, claims: usize) -> Counts
-    ensures { result ≡ after_step counts wanted claims }
-{
-    Counts {
-        demands: counts.demands,
-        made: counts.made,
-        wants: wanted.wants,
-        due: wanted.due,
-        goal: wanted.goal,
-        claims,
-    }
-}
-
 // Carries out a line that is accepted; the step is the one that begins, or that the instruction stands under.
-fn carry(
-    step: u32,
-    counts: Counts,
-    places: &mut Places,
-    demands: &mut PairCells,
-    made: &mut PairCells,
-    values: &mut Values,
-    wants: &mut PairCells,
-    due: &mut PairCells,
-    goal: &mut PairCells,
-    claims: &mut PairCells,
-    line: CheckLine,
-) -> Counts
+fn carry(step: u32, symbols: &mut Symbols, line: CheckLine)
     requires { (step ≤ step_lines) × (fits line ≡ true) }
-    ensures { symbols_of result places.new demands.new made.new values.new wants.new due.new goal.new claims.new ≡ carried step (symbols_of counts places.old demands.old made.old values.old wants.old due.old goal.old claims.old) line }
+    ensures { symbols.new ≡ carried step symbols.old line }
 {
     match line {
         CheckLine::Begins(begins) => {
-            let claimed = call_at(
-                places,
-                goal,
-                counts.goal,
-                claims,
-                counts.claims,
+            call_at(
+                &mut symbols.doing.places,
+                &symbols.wanting.goal,
+                &mut symbols.claims,
                 step,
                 begins,
             );
-            let before = wanted_counts(counts.wants, counts.due, counts.goal);
-            let after = want(values, wants, due, goal, before, step, begins);
-            after_step(counts, after, claimed)
+            want(&mut symbols.wanting, step, begins);
         }
-        CheckLine::Does(instruction) => {
-            let before = DoneCounts {
-                demands: counts.demands,
-                made: counts.made,
-            };
-            let after = does(places, demands, made, before, step, instruction);
-            after_instruction(counts, after)
-        }
-    }
-}
-
-// The outcome of a line, put together.
-fn with_refusal(order: Order, counts: Counts, refusal: u32) -> Taken
-    ensures { result ≡ taken_with order counts refusal }
-{
-    Taken {
-        order,
-        counts,
-        refusal,
+        CheckLine::Does(instruction) => does(&mut symbols.doing, step, instruction),
     }
 }
 
 // A line judged, and carried out where it is accepted; a line that is refused leaves everything as it is.
-pub fn take_line(
-    order: Order,
-    counts: Counts,
-    places: &mut Places,
-    demands: &mut PairCells,
-    made: &mut PairCells,
-    values: &mut Values,
-    wants: &mut PairCells,
-    due: &mut PairCells,
-    goal: &mut PairCells,
-    claims: &mut PairCells,
-    line: CheckLine,
-) -> Taken
-    ensures { taking_of places.new demands.new made.new values.new wants.new due.new goal.new claims.new result ≡ taken order (symbols_of counts places.old demands.old made.old values.old wants.old due.old goal.old claims.old) line }
+pub fn take_line(order: Order, symbols: &mut Symbols, line: CheckLine) -> Judged
+    ensures { taking_of symbols.new result ≡ taken order symbols.old line }
 {
     if (STEPS as u32) < order.steps {
-        return with_refusal(order, counts, refusals::FULL);
+        return Judged {
+            order,
+            refusal: Some(Refusal::Full),
+        };
     }
     let judged = steps::judge(order, line);
-    let next = judged.order;
-    if 0 < judged.refusal {
-        return with_refusal(next, counts, judged.refusal);
+    match judged.refusal {
+        Some(_) => judged,
+        None => {
+            carry(judged.order.steps, symbols, line);
+            judged
+        }
     }
-    let after = carry(
-        next.steps, counts, places, demands, made, values, wants, due, goal, claims, line,
-    );
-    with_refusal(next, after, refusals::ACCEPTED)
 }
 
 // ---- At the start
 
-// Puts into each place its own name.
-fn fill_places(places: &mut [u32])
-    requires { length places.old ≡ place_cells }
-    ensures { places.new ≡ numbers_from 0 place_cells }
-{
-    let mut name: u32 = 0;
-    while name < PLACE_CELLS as u32 {
-        places[name as usize] = name;
-        name += 1;
-    }
-}
-
 // Every place holds its own name.
-pub fn fresh_places() -> Places
+fn fresh_places() -> Places
     ensures { result ≡ numbers_from 0 place_cells }
 {
     let mut places = [0; PLACE_CELLS];
-    fill_places(&mut places);
+    for (name, place) in places.iter_mut().enumerate() {
+        *place = name as u32;
+    }
     places
 }
 
 // No pairs.
-pub fn fresh_counts() -> Counts
-    ensures { result ≡ fresh_counts }
+const NO_PAIRS: Pairs = Pairs {
+    cells: [(0, 0); PAIR_CELLS],
+    count: 0,
+};
+
+// Every place holds the name 0, and nothing is demanded or wanted.
+pub const NOTHING: Symbols = Symbols {
+    doing: Doing {
+        places: [0; PLACE_CELLS],
+        demands: NO_PAIRS,
+        made: NO_PAIRS,
+    },
+    wanting: Wanting {
+        values: [None; VARIABLES],
+        wants: NO_PAIRS,
+        due: NO_PAIRS,
+        goal: NO_PAIRS,
+    },
+    claims: NO_PAIRS,
+};
+
+// Every place holds its own name, and nothing is demanded or wanted. The value is lent, since one that is handed back takes its
+// room twice.
+pub fn begin(symbols: &mut Symbols)
+    ensures { symbols.new ≡ fresh_symbols }
 {
-    Counts {
-        demands: 0,
-        made: 0,
-        wants: 0,
-        due: 0,
-        goal: 0,
-        claims: 0,
-    }
+    *symbols = NOTHING;
+    symbols.doing.places = fresh_places();
 }

@@ -1,5 +1,5 @@
 // Use sets, and the conflict sets that follow from them. They stand beside the records: a table with a row a variable,
-// and beside it how many entries of each row count.
+// and beside it how many entries of each row count. Arrays with counts, since a C host lends them and their memory is fixed.
 #![tactic(auto)]
 
 ghost use Rattle.std.specs.Prelude.{◌≡◌, min};
@@ -64,10 +64,7 @@ pub fn register_of(code: u32) -> u32
 fn counted(count: u32) -> usize
     ensures { result ≡ min count uses }
 {
-    if USES as u32 <= count {
-        return USES;
-    }
-    count as usize
+    count.min(USES as u32) as usize
 }
 
 // The use set of `v`, a part of the table; it is empty where there is no such variable.
@@ -90,10 +87,8 @@ pub fn used_registers(use_sets: &UseSets, use_counts: &UseCounts, v: u32) -> Bit
 {
     let use_set = uses_of(use_sets, use_counts, v);
     let mut registers = bit_set::empty();
-    let mut i = 0;
-    while i < use_set.len() {
-        registers = bit_set::insert(registers, register_of(use_set[i]));
-        i += 1;
+    for code in use_set {
+        registers = bit_set::insert(registers, register_of(*code));
     }
     registers
 }
@@ -102,15 +97,7 @@ pub fn used_registers(use_sets: &UseSets, use_counts: &UseCounts, v: u32) -> Bit
 pub fn contains_use(use_sets: &UseSets, use_counts: &UseCounts, v: u32, code: u32) -> bool
     ensures { result ≡ contains_use (uses_of use_sets.now use_counts.now v) code }
 {
-    let use_set = uses_of(use_sets, use_counts, v);
-    let mut i = 0;
-    while i < use_set.len() {
-        if code == use_set[i] {
-            return true;
-        }
-        i += 1;
-    }
-    false
+    uses_of(use_sets, use_counts, v).contains(&code)
 }
 
 // Puts the use `code` behind those of `v`. A repeat is ignored, and so is a use for which the row has no room.
@@ -137,10 +124,8 @@ fn up_to(end: u32) -> BitSet
     ensures { result ≡ up_to end }
 {
     let mut numbers = bit_set::empty();
-    let mut n = 1;
-    while n < end {
+    for n in 1..end {
         numbers = bit_set::insert(numbers, n);
-        n += 1;
     }
     numbers
 }
@@ -151,10 +136,8 @@ pub fn populate_conflict_set(use_sets: &UseSets, use_counts: &UseCounts, v: u32)
 {
     let use_set = uses_of(use_sets, use_counts, v);
     let mut conflict_set = up_to(use_set.len() as u32);
-    let mut i = 0;
-    while i < use_set.len() {
-        conflict_set = bit_set::remove(conflict_set, register_of(use_set[i]));
-        i += 1;
+    for code in use_set {
+        conflict_set = bit_set::remove(conflict_set, register_of(*code));
     }
     conflict_set
 }

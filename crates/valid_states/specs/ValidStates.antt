@@ -1,10 +1,11 @@
 -- When a state that a host lends is valid: rule 17.4. What lies past a count is not looked at: rule 17.5.
-use Rattle.std.specs.Prelude.{ℕ, zero, suc, ◌+◌, ◌*◌, Bool, true, not, ◌&&◌, ◌||◌, List, eqb, leb, ltb, get_or}
+use Rattle.std.specs.Prelude.{ℕ, zero, suc, ◌+◌, ◌*◌, Bool, true, not, ◌&&◌, ◌||◌, eqb, leb, ltb, get_or}
 use Rattle.sizes.specs.Sizes.{variables, uses, registers, counters, freed_registers, freed_slots, open_branches, is_register, is_argument, is_chunk, is_count}
 use Rattle.bit_set.specs.BitSet.{has}
 use Rattle.variable_records.specs.declared.Row.{Row}
 use Rattle.variable_records.specs.Rows.{unset, row_at, is_temporary}
 use Rattle.register_sets.specs.RegisterSets.{set_at}
+use Rattle.restricting_sets.specs.declared.VariableSets.{VariableSets}
 use Rattle.shallow_temp_mappings.specs.Mappings.{unmapped}
 use Rattle.perm_free_list.specs.declared.FreedSlot.{FreedSlot}
 use Rattle.perm_free_list.specs.PermFreeList.{entry_at}
@@ -61,16 +62,16 @@ row_fits records row =
     && (is_count row.num_occurrences && is_count row.running_count))))))))
 
 -- the uses of variable v that count
-abbrev pub uses_fit : List ℕ → List ℕ → ℕ → Bool
-uses_fit use_sets use_counts v =
-    leb (get_or use_counts v 0) uses && all_below (get_or use_counts v 0) (λ i. is_use (get_or use_sets (v * uses + i) 0))
+abbrev pub uses_fit : VariableSets → ℕ → Bool
+uses_fit s v =
+    leb (get_or s.use_counts v 0) uses && all_below (get_or s.use_counts v 0) (λ i. is_use (get_or s.use_sets (v * uses + i) 0))
 
 module _ (s : State) where
   abbrev pub variable_fits : ℕ → Bool
   variable_fits v =
       row_fits s.counters.records (row_at s.records v)
-      && (uses_fit s.use_sets s.use_counts v
-      && (is_register_set (set_at s.no_use v) && is_register_set (set_at s.conflict v)))
+      && (uses_fit s.sets v
+      && (is_register_set (set_at s.sets.no_use v) && is_register_set (set_at s.sets.conflict v)))
 
   -- ---- The other tables
 
@@ -107,7 +108,7 @@ module _ (s : State) where
       && (are_variables branch.deep_safety && are_permanent branch.subsumed_hits)))
 
   abbrev pub branch_fits : ℕ → Bool
-  branch_fits level = occurrences_fit (occurrences_at s.branch_rows s.branch_sets level)
+  branch_fits level = occurrences_fit (occurrences_at s.branches.rows s.branches.sets level)
 
   unfoldable pub is_valid : Bool
   is_valid =

@@ -7,7 +7,6 @@ ghost use Rattle.sizes.specs.Sizes.{variables, registers, freed_registers};
 ghost use Rattle.bit_set.specs.BitSet.{has};
 ghost use Rattle.variable_records.specs.Rows.{is_temporary};
 ghost use Rattle.shallow_temp_mappings.specs.Mappings.{unmapped};
-ghost use Rattle.debray_allocator.specs.State.{state_of};
 ghost use Rattle.valid_states.specs.Parts.{of_records, of_sets, of_mappings, of_branches, of_freed_registers, of_freed_slots};
 ghost use Rattle.valid_states.specs.ValidStates.{
   all_below,
@@ -32,22 +31,21 @@ ghost use Rattle.valid_states.specs.ValidStates.{
 use allocation::TempFreeList;
 use allocator_state::Counters;
 use bit_set::BitSet;
-use branch_stack::{BranchOccurrences, BranchRows, BranchSets};
+use branch_stack::{BranchOccurrences, BranchStack};
 use debray_allocator::State;
 use perm_free_list::{FreedSlot, PermFreeList};
-use register_sets::RegisterSets;
+use restricting_sets::VariableSets;
 use shallow_temp_mappings::Mappings;
 use sizes::{
     FREED_REGISTERS, FREED_SLOTS, LAST_COUNTER, LAST_REGISTER, OPEN_BRANCHES, USES, VARIABLES,
 };
-use temp_var_data::{UseCounts, UseSets};
 use variable_records::{Records, Row};
 
 // Whether `temp_lb`, `perm_lb` or the argument counter can stand at a number.
 fn is_counter(n: u32) -> bool
     ensures { result ≡ is_counter n }
 {
-    sizes::both(1 <= n, n <= LAST_COUNTER)
+    1 <= n && n <= LAST_COUNTER
 }
 
 // Whether every member of a set is a register's number: 0 is none.
@@ -57,24 +55,22 @@ fn is_register_set(set: BitSet) -> bool
     !bit_set::contains(set, 0)
 }
 
-// Whether the counters are inside their sizes. Each test takes in those that stand after it in the definition.
+// Whether the counters are inside their sizes.
 fn counters_fit(counters: Counters) -> bool
     ensures { result ≡ counters_fit counters }
 {
-    let branches = sizes::both(
-        counters.open_branches <= OPEN_BRANCHES as u32,
-        is_register_set(counters.in_use),
-    );
-    let slots = sizes::both(counters.freed_slots <= FREED_SLOTS as u32, branches);
-    let first = sizes::both(counters.first_freed_slot < FREED_SLOTS as u32, slots);
-    let freed = sizes::both(counters.freed_registers <= FREED_REGISTERS as u32, first);
-    let seen = sizes::both(counters.events_seen <= 1, freed);
-    let records = sizes::both(counters.records <= VARIABLES as u32, seen);
-    let tail = sizes::both(counters.in_tail_position <= 1, records);
-    let arity = sizes::both(sizes::is_argument(counters.arity), tail);
-    let perm = sizes::both(is_counter(counters.perm_lb), arity);
-    let temp = sizes::both(is_counter(counters.temp_lb), perm);
-    sizes::both(is_counter(counters.arg_c), temp)
+    is_counter(counters.arg_c)
+        && is_counter(counters.temp_lb)
+        && is_counter(counters.perm_lb)
+        && sizes::is_argument(counters.arity)
+        && counters.in_tail_position <= 1
+        && counters.records <= VARIABLES as u32
+        && counters.events_seen <= 1
+        && counters.freed_registers <= FREED_REGISTERS as u32
+        && counters.first_freed_slot < FREED_SLOTS as u32
+        && counters.freed_slots <= FREED_SLOTS as u32
+        && counters.open_branches <= OPEN_BRANCHES as u32
+        && is_register_set(counters.in_use)
 }
 
 // Whether a number is that of a variable, or of none.
@@ -84,115 +80,64 @@ fn names_none_or(records: u32, v: u32) -> bool
     v == variable_records::UNSET || v < records
 }
 
-// Whether the numbers of a row are inside their sizes. Each test takes in those that stand after it in the definition.
+// Whether the numbers of a row are inside their sizes.
 fn row_fits(records: u32, row: Row) -> bool
     ensures { result ≡ row_fits records row }
 {
-    let counts = sizes::both(
-        sizes::is_count(row.num_occurrences),
-        sizes::is_count(row.running_count),
-    );
-    let names = sizes::both(names_none_or(records, row.to_perm_var_num), counts);
-    let deep = sizes::both(row.deep.code <= 2, names);
-    let safety = sizes::both(row.safety.code <= 2, deep);
-    let pending = sizes::both(row.pending <= 1, safety);
-    let place = sizes::both(sizes::is_argument(row.place), pending);
-    let chunk = sizes::both(sizes::is_chunk(row.chunk), place);
-    let context = sizes::both(row.context <= 2, chunk);
-    sizes::both(row.kind <= 1, context)
+    row.kind <= 1
+        && row.context <= 2
+        && sizes::is_chunk(row.chunk)
+        && sizes::is_argument(row.place)
+        && row.pending <= 1
+        && row.safety.code <= 2
+        && row.deep.code <= 2
+        && names_none_or(records, row.to_perm_var_num)
+        && sizes::is_count(row.num_occurrences)
+        && sizes::is_count(row.running_count)
 }
 
 // Whether the uses of a variable that count are uses.
-fn uses_fit(use_sets: &UseSets, use_counts: &UseCounts, v: u32) -> bool
+fn uses_fit(sets: &VariableSets, v: u32) -> bool
     requires { v < variables }
-    ensures { result ≡ uses_fit use_sets.now use_counts.now v }
+    ensures { result ≡ uses_fit sets.now v }
 {
-    let row = v as usize;
-    let count = use_counts[row];
-    if (USES as u32) < count {
-        return false;
-    }
-    let mut i = 0;
-    while i < count {
-        if events::is_use(use_sets[row * USES + i as usize]) {
-            i += 1;
-        } else {
-            return false;
-        }
-    }
-    true
+    sets.use_counts[v as usize] <= USES as u32
+        && temp_var_data::uses_of(&sets.use_sets, &sets.use_counts, v)
+            .iter()
+            .all(|code| events::is_use(*code))
 }
 
 // Whether a variable's record and its sets fit.
-fn variable_fits(
-    counters: Counters,
-    records: &Records,
-    use_sets: &UseSets,
-    use_counts: &UseCounts,
-    no_use: &RegisterSets,
-    conflict: &RegisterSets,
-    v: u32,
-) -> bool
+fn variable_fits(counters: Counters, records: &Records, sets: &VariableSets, v: u32) -> bool
     requires { v < variables }
-    ensures { result ≡ variable_fits (of_sets counters records.now use_sets.now use_counts.now no_use.now conflict.now) v }
+    ensures { result ≡ variable_fits (of_sets counters records.now sets.now) v }
 {
-    let of_row = row_fits(counters.records, variable_records::row_at(records, v));
-    let of_uses = uses_fit(use_sets, use_counts, v);
-    let of_no_use = is_register_set(register_sets::load(no_use, v));
-    let of_conflict = is_register_set(register_sets::load(conflict, v));
-    sizes::both(
-        of_row,
-        sizes::both(of_uses, sizes::both(of_no_use, of_conflict)),
-    )
+    row_fits(counters.records, variable_records::row_at(records, v))
+        && uses_fit(sets, v)
+        && is_register_set(register_sets::load(&sets.no_use, v))
+        && is_register_set(register_sets::load(&sets.conflict, v))
 }
 
 // Whether every variable's does.
-fn variables_fit(
-    counters: Counters,
-    records: &Records,
-    use_sets: &UseSets,
-    use_counts: &UseCounts,
-    no_use: &RegisterSets,
-    conflict: &RegisterSets,
-) -> bool
+fn variables_fit(counters: Counters, records: &Records, sets: &VariableSets) -> bool
     requires { counters.records ≤ variables }
-    ensures { result ≡ all_below counters.records (variable_fits (of_sets counters records.now use_sets.now use_counts.now no_use.now conflict.now)) }
+    ensures { result ≡ all_below counters.records (variable_fits (of_sets counters records.now sets.now)) }
 {
-    let mut v = 0;
-    while v < counters.records {
-        if variable_fits(counters, records, use_sets, use_counts, no_use, conflict, v) {
-            v += 1;
-        } else {
-            return false;
-        }
-    }
-    true
+    (0..counters.records).all(|v| variable_fits(counters, records, sets, v))
 }
 
 // Whether a mapping names a temporary, or none.
 fn mapping_fits(counters: Counters, records: &Records, v: u32) -> bool
     ensures { result ≡ (eqb v unmapped || ltb v counters.records && is_temporary records.now v) }
 {
-    if v == VARIABLES as u32 {
-        return true;
-    }
-    let temporary = variable_records::is_temporary(records, v);
-    sizes::both(v < counters.records, temporary)
+    v == VARIABLES as u32 || v < counters.records && variable_records::is_temporary(records, v)
 }
 
 // Whether every mapping does.
 fn mappings_fit(counters: Counters, records: &Records, mappings: &Mappings) -> bool
     ensures { result ≡ all_below (registers + 1) (mapping_fits (of_mappings counters records.now mappings.now)) }
 {
-    let mut r = 0;
-    while r <= LAST_REGISTER {
-        if mapping_fits(counters, records, mappings[r as usize]) {
-            r += 1;
-        } else {
-            return false;
-        }
-    }
-    true
+    mappings.iter().all(|v| mapping_fits(counters, records, *v))
 }
 
 // Whether every freed register is one.
@@ -200,181 +145,100 @@ fn freed_registers_fit(counters: Counters, list: &TempFreeList) -> bool
     requires { counters.freed_registers ≤ freed_registers }
     ensures { result ≡ all_below counters.freed_registers (freed_register_fits (of_freed_registers counters list.now)) }
 {
-    let mut i = 0;
-    while i < counters.freed_registers {
-        if sizes::is_register(list[i as usize]) {
-            i += 1;
-        } else {
-            return false;
-        }
-    }
-    true
+    list[..counters.freed_registers as usize]
+        .iter()
+        .all(|r| sizes::is_register(*r))
 }
 
 // Whether an entry of the queue of freed slots has a chunk and a variable.
 fn entry_fits(counters: Counters, entry: FreedSlot) -> bool
     ensures { result ≡ entry_fits (of_freed_slots counters []) entry }
 {
-    sizes::both(
-        sizes::is_chunk(entry.chunk),
-        entry.variable < counters.records,
-    )
+    sizes::is_chunk(entry.chunk) && entry.variable < counters.records
 }
 
 // Whether every entry has.
 fn freed_slots_fit(counters: Counters, list: &PermFreeList) -> bool
     ensures { result ≡ all_below counters.freed_slots (freed_slot_fits (of_freed_slots counters list.now)) }
 {
-    let mut i = 0;
-    while i < counters.freed_slots {
-        let entry = perm_free_list::entry_at(list, counters.first_freed_slot, i);
-        if entry_fits(counters, entry) {
-            i += 1;
-        } else {
-            return false;
-        }
-    }
-    true
+    (0..counters.freed_slots).all(|i| {
+        entry_fits(
+            counters,
+            perm_free_list::entry_at(list, counters.first_freed_slot, i),
+        )
+    })
 }
 
 // Whether a number is a variable's if it is a member of a set.
 fn member_is_variable(counters: Counters, set: BitSet, v: u32) -> bool
     ensures { result ≡ (not (has set v) || ltb v counters.records) }
 {
-    if bit_set::contains(set, v) {
-        return v < counters.records;
-    }
-    true
+    !bit_set::contains(set, v) || v < counters.records
 }
 
 // Whether the members of a set are variables.
 fn are_variables(counters: Counters, set: BitSet) -> bool
     ensures { result ≡ are_variables (of_records counters []) set }
 {
-    let mut v = 0;
-    while v < VARIABLES as u32 {
-        if member_is_variable(counters, set, v) {
-            v += 1;
-        } else {
-            return false;
-        }
-    }
-    true
+    (0..VARIABLES as u32).all(|v| member_is_variable(counters, set, v))
 }
 
 // Whether a number is a permanent variable's if it is a member of a set.
 fn member_is_permanent(counters: Counters, records: &Records, set: BitSet, v: u32) -> bool
     ensures { result ≡ (not (has set v) || ltb v counters.records && not (is_temporary records.now v)) }
 {
-    if bit_set::contains(set, v) {
-        let permanent = !variable_records::is_temporary(records, v);
-        return sizes::both(v < counters.records, permanent);
-    }
-    true
+    !bit_set::contains(set, v)
+        || v < counters.records && !variable_records::is_temporary(records, v)
 }
 
 // Whether the members of a set are permanent variables.
 fn are_permanent(counters: Counters, records: &Records, set: BitSet) -> bool
     ensures { result ≡ are_permanent (of_records counters records.now) set }
 {
-    let mut v = 0;
-    while v < VARIABLES as u32 {
-        if member_is_permanent(counters, records, set, v) {
-            v += 1;
-        } else {
-            return false;
-        }
-    }
-    true
+    (0..VARIABLES as u32).all(|v| member_is_permanent(counters, records, set, v))
 }
 
 // Whether the counts of an open branch and the variables that it recorded fit.
 fn occurrences_fit(counters: Counters, records: &Records, branch: BranchOccurrences) -> bool
     ensures { result ≡ occurrences_fit (of_records counters records.now) branch }
 {
-    let hits = are_permanent(counters, records, branch.subsumed_hits);
-    let deep = sizes::both(are_variables(counters, branch.deep_safety), hits);
-    let shallow = sizes::both(are_variables(counters, branch.shallow_safety), deep);
-    let index = sizes::both(sizes::is_count(branch.current_branch_idx), shallow);
-    sizes::both(sizes::is_count(branch.num_branches), index)
+    sizes::is_count(branch.num_branches)
+        && sizes::is_count(branch.current_branch_idx)
+        && are_variables(counters, branch.shallow_safety)
+        && are_variables(counters, branch.deep_safety)
+        && are_permanent(counters, records, branch.subsumed_hits)
+}
+
+// Whether those of the open branch at a level do.
+fn branch_fits(counters: Counters, records: &Records, branches: &BranchStack, level: u32) -> bool
+    ensures { result ≡ branch_fits (of_branches counters records.now branches.now) level }
+{
+    occurrences_fit(counters, records, branches.load(level))
 }
 
 // Whether those of every open branch do.
-fn branches_fit(counters: Counters, records: &Records, rows: &BranchRows, sets: &BranchSets) -> bool
-    ensures { result ≡ all_below counters.open_branches (branch_fits (of_branches counters records.now rows.now sets.now)) }
+fn branches_fit(counters: Counters, records: &Records, branches: &BranchStack) -> bool
+    ensures { result ≡ all_below counters.open_branches (branch_fits (of_branches counters records.now branches.now)) }
 {
-    let mut level = 0;
-    while level < counters.open_branches {
-        let branch = branch_stack::load(rows, sets, level);
-        if occurrences_fit(counters, records, branch) {
-            level += 1;
-        } else {
-            return false;
-        }
-    }
-    true
+    (0..counters.open_branches).all(|level| branch_fits(counters, records, branches, level))
 }
 
-// Whether a state, by its counters and its tables, is valid.
-pub fn is_valid(
-    counters: Counters,
-    records: &Records,
-    use_sets: &UseSets,
-    use_counts: &UseCounts,
-    no_use: &RegisterSets,
-    conflict: &RegisterSets,
-    mappings: &Mappings,
-    freed_registers: &TempFreeList,
-    freed_slots: &PermFreeList,
-    branch_rows: &BranchRows,
-    branch_sets: &BranchSets,
-) -> bool
-    ensures { result ≡ is_valid (state_of counters records.now use_sets.now use_counts.now no_use.now conflict.now mappings.now freed_registers.now freed_slots.now branch_rows.now branch_sets.now) }
+// Whether a state that is lent is valid.
+pub fn is_valid(state: &State) -> bool
+    ensures { result ≡ is_valid state.now }
 {
-    if !counters_fit(counters) {
-        return false;
-    }
-    if !variables_fit(counters, records, use_sets, use_counts, no_use, conflict) {
-        return false;
-    }
-    if !mappings_fit(counters, records, mappings) {
-        return false;
-    }
-    if !freed_registers_fit(counters, freed_registers) {
-        return false;
-    }
-    if !freed_slots_fit(counters, freed_slots) {
-        return false;
-    }
-    branches_fit(counters, records, branch_rows, branch_sets)
+    let counters = state.counters;
+    counters_fit(counters)
+        && variables_fit(counters, &state.records, &state.sets)
+        && mappings_fit(counters, &state.records, &state.mappings)
+        && freed_registers_fit(counters, &state.freed_registers)
+        && freed_slots_fit(counters, &state.freed_slots)
+        && branches_fit(counters, &state.records, &state.branches)
 }
 
 // Whether a state is valid.
 pub fn is_valid_state(state: State) -> bool
     ensures { result ≡ is_valid state }
 {
-    let counters = state.counters;
-    let records = state.records;
-    let use_sets = state.use_sets;
-    let use_counts = state.use_counts;
-    let no_use = state.no_use;
-    let conflict = state.conflict;
-    let mappings = state.mappings;
-    let freed_registers = state.freed_registers;
-    let freed_slots = state.freed_slots;
-    let branch_rows = state.branch_rows;
-    let branch_sets = state.branch_sets;
-    is_valid(
-        counters,
-        &records,
-        &use_sets,
-        &use_counts,
-        &no_use,
-        &conflict,
-        &mappings,
-        &freed_registers,
-        &freed_slots,
-        &branch_rows,
-        &branch_sets,
-    )
+    is_valid(&state)
 }

@@ -102,22 +102,22 @@ module _ (s : State) (small : s.counters.records ≤ variables) where
 
 pub record VariableSaid (s : State) (v : ℕ) : Type 0 where
   pub row : row_fits s.counters.records (row_at s.records v) ≡ true
-  pub count : get_or s.use_counts v 0 ≤ uses
-  pub each : (i : ℕ) → i < get_or s.use_counts v 0 → is_use (get_or s.use_sets (v * uses + i) 0) ≡ true
-  pub no_use : has (set_at s.no_use v) 0 ≡ false
-  pub conflict : has (set_at s.conflict v) 0 ≡ false
+  pub count : get_or s.sets.use_counts v 0 ≤ uses
+  pub each : (i : ℕ) → i < get_or s.sets.use_counts v 0 → is_use (get_or s.sets.use_sets (v * uses + i) 0) ≡ true
+  pub no_use : has (set_at s.sets.no_use v) 0 ≡ false
+  pub conflict : has (set_at s.sets.conflict v) 0 ≡ false
 
 variable_said : (s : State) (v : ℕ) → variable_fits s v ≡ true → VariableSaid s v
 variable_said s v e =
-    let count = get_or s.use_counts v 0 in
+    let count = get_or s.sets.use_counts v 0 in
     let row = both_true (row_fits s.counters.records (row_at s.records v)) _ e in
-    let used = both_true (uses_fit s.use_sets s.use_counts v) _ row.1 in
-    let u = both_true (leb count uses) (all_below count (λ i. is_use (get_or s.use_sets (v * uses + i) 0))) used.0 in
-    let sets = both_true (is_register_set (set_at s.no_use v)) (is_register_set (set_at s.conflict v)) used.1 in
+    let used = both_true (uses_fit s.sets v) _ row.1 in
+    let u = both_true (leb count uses) (all_below count (λ i. is_use (get_or s.sets.use_sets (v * uses + i) 0))) used.0 in
+    let sets = both_true (is_register_set (set_at s.sets.no_use v)) (is_register_set (set_at s.sets.conflict v)) used.1 in
     record {
       row = row.0;
       count = leb-true _ _ u.0;
-      each = λ i h. below_at (λ i. is_use (get_or s.use_sets (v * uses + i) 0)) count i u.1 h;
+      each = λ i h. below_at (λ i. is_use (get_or s.sets.use_sets (v * uses + i) 0)) count i u.1 h;
       no_use = not-true _ sets.0;
       conflict = not-true _ sets.1;
     }
@@ -168,7 +168,7 @@ valid_fits s full e =
           rows_full = full.branch_rows;
           sets_full = full.branch_sets;
           level = λ level h.
-              occurrences_fit_lem s small (occurrences_at s.branch_rows s.branch_sets level)
+              occurrences_fit_lem s small (occurrences_at s.branches.rows s.branches.sets level)
               (below_at (branch_fits s) c.open_branches level queued.1 h);
         };
       };

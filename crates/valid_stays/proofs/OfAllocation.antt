@@ -1,9 +1,11 @@
 -- A valid state stays valid where a term gets a place and where a variable is freed.
-use Rattle.std.specs.Prelude.{ℕ, zero, suc, ◌+◌, ◌%◌, ◌≤◌, ◌<◌, ◌≡◌, refl, false, leb, ltb, length, get_or}
-use Rattle.std.proofs.Common.{sym, subst, arith}
+use Rattle.std.specs.Bool.{then_some}
+use Rattle.std.specs.Prelude.{Option, Some, None, Bool, true, ℕ, zero, suc, ◌+◌, ◌%◌, ◌≤◌, ◌<◌, ◌≡◌, refl, false, leb, ltb, length, get_or}
+use Rattle.std.proofs.Common.{sym, subst, arith, true≢false}
 use mathlib.Core.List.{List, [], ◌∷◌}
 use borrow.Author.Tests.{ltb-true, ltb-false, leb-false}
 use Rattle.notation.specs.ChoiceLaws.{either, by_test}
+use Rattle.refusals.specs.Refusals.{is_refused}
 use Rattle.sizes.specs.Sizes.{registers, chunks, counts, freed_registers, freed_slots}
 use Rattle.variable_records.specs.declared.VarSafetyStatus.TheVariants.{Needed}
 use Rattle.variable_records.specs.declared.PermVarAllocation.TheVariants.{Done, Pending}
@@ -13,15 +15,14 @@ use Rattle.variable_records.specs.Records.{allocated}
 use Rattle.variable_records.specs.Rows.{record_at, record_put}
 use Rattle.perm_free_list.specs.declared.FreedSlot.{FreedSlot}
 use Rattle.perm_free_list.specs.declared.Looked.{Looked}
-use Rattle.perm_free_list.specs.PermFreeList.{pending_slot, free_slot, entries, looked}
+use Rattle.perm_free_list.specs.declared.Taken.{Taken}
+use Rattle.perm_free_list.specs.PermFreeList.{pending_slot, free_slot, entries, given_or, looked}
 use Rattle.allocator_state.specs.declared.Counters.{Counters}
 use Rattle.allocator_state.specs.State.{counter_after}
-use Rattle.choice.specs.declared.Chosen.{Chosen}
-use Rattle.choice.specs.declared.Chosen.TheVariants.{Register, NoRegister}
 use Rattle.choice.specs.Choice.{in_use, least_outside}
 use Rattle.allocation.specs.declared.Popped.{Popped}
 use Rattle.allocation.specs.declared.NonVar.{NonVar}
-use Rattle.allocation.specs.Allocation.{popped, searched, non_var_by, non_var, slot_given, slot_taken, Placement, new_slot, slot_found, perm_placed}
+use Rattle.allocation.specs.Allocation.{popped, searched, non_var_by, non_var, slot_given, slot_taken, Placement, new_slot, slot_placed, slot_found, perm_placed}
 use Rattle.freeing.specs.Freeing.{Release, pushed_free, ReleaseOf, freed_as, freed as freeing, running_at, counted_or_freed}
 use Rattle.valid_stays.specs.Fits.{Kinds, Placed, AllocFits, EntryFits, Queue, Freed, Valid}
 use Rattle.valid_stays.proofs.RecordsFit.{record_fits}
@@ -59,7 +60,7 @@ module _ (k : Kinds) (mappings queue freed rows sets : List ℕ) where
   -- the place of a placement that is not refused is a slot
   pub record PlacementValid (p : Placement) : Type 0 where
     pub valid : Valid k p.placed.counters p.records mappings queue freed rows sets
-    pub place : p.placed.refusal ≤ 0 → Placed p.placed.place
+    pub place : is_refused p.placed.refusal ≡ false → Placed p.placed.place
 
 module _ (k : Kinds) (mappings freed rows sets : List ℕ) where
   abbrev pub ReleaseValid : ReleaseOf → Type 0
@@ -82,32 +83,46 @@ unfolding entries
 entries-length list first i zero = refl
 entries-length list first i (suc n) = let e = entries-length list first (suc i) n in omega arith
 
+-- a slot that is taken is one, and its owner's
+abbrev pub TakenFits : Kinds → Option Taken → Type 0
+TakenFits k (Some taken) = Placed taken.slot × (taken.owner < k.count)
+TakenFits k None = Unit {0}
+
 pub record LookedFits (k : Kinds) (most : ℕ) (found : Looked) : Type 0 where
   pub dropped : found.dropped ≤ most
-  pub slot : found.slot ≤ registers
-  pub owner : 0 < found.slot → found.owner < k.count
+  pub taken : TakenFits k found.taken
 
-pending-fits : (k : Kinds) (w : ℕ) (allocation : VarAlloc) → AllocFits k w allocation → pending_slot allocation ≤ registers
-pending-fits k w (Temp context register safety to_perm) h = omega arith
-pending-fits k w (Perm slot (Done shallow deep)) h = omega arith
-pending-fits k w (Perm slot Pending) h = h.1
+some-fits : (t : Bool) (slot : ℕ) → ltb 0 slot ≡ t → slot ≤ registers → PlacedChoice (then_some t slot)
+some-fits true slot t small = record { some = ltb-true 0 slot t; last = small }
+some-fits false slot t small = tt
+
+pending-fits : (k : Kinds) (w : ℕ) (allocation : VarAlloc) → AllocFits k w allocation → PlacedChoice (pending_slot allocation)
+pending-fits k w (Temp context register safety to_perm) h = tt
+pending-fits k w (Perm slot (Done shallow deep)) h = tt
+pending-fits k w (Perm slot Pending) h = some-fits (ltb 0 slot) slot refl h.1
+
+given-fits :
+    (k : Kinds) (slot : Option ℕ) (dropped owner most : ℕ) (rest : Looked) → PlacedChoice slot → owner < k.count → dropped ≤ most
+    → LookedFits k most rest → LookedFits k most (given_or slot dropped owner rest)
+given-fits k (Some slot) dropped owner most rest placed known less behind = record { dropped = less; taken = (placed, known) }
+given-fits k None dropped owner most rest placed known less behind = behind
 
 module _ (k : Kinds) {c : Counters} {records mappings queue freed rows sets : List ℕ} (h : Valid k c records mappings queue freed rows sets) where
   -- ---- A term that is no variable
 
-  searched_valid : (choice : Chosen) → PlacedChoice choice → NonVarValid k records mappings queue freed rows sets (searched c choice)
-  searched_valid (Register r) g =
+  searched_valid : (choice : Option ℕ) → PlacedChoice choice → NonVarValid k records mappings queue freed rows sets (searched c choice)
+  searched_valid (Some r) g =
       record {
         valid = used_valid k (search_valid k (fewer_valid k h 0 (omega arith)) (counter_after r) (counter_after_lem r)) r g.some;
         chosen = g;
       }
-  searched_valid NoRegister g = record { valid = h; chosen = tt }
+  searched_valid None g = record { valid = h; chosen = tt }
 
   non_var_by_valid :
-      (left : ℕ) → left ≤ c.freed_registers → (choice : Chosen) → PlacedChoice choice
+      (left : ℕ) → left ≤ c.freed_registers → (choice : Option ℕ) → PlacedChoice choice
       → NonVarValid k records mappings queue freed rows sets (non_var_by c left choice)
-  non_var_by_valid left less (Register r) g = record { valid = used_valid k (fewer_valid k h left less) r g.some; chosen = g }
-  non_var_by_valid left less NoRegister g = searched_valid (least_outside c) (outside_placed k c h.counted)
+  non_var_by_valid left less (Some r) g = record { valid = used_valid k (fewer_valid k h left less) r g.some; chosen = g }
+  non_var_by_valid left less None g = searched_valid (least_outside c) (outside_placed k c h.counted)
 
   pub non_var_valid : NonVarValid k records mappings queue freed rows sets (non_var c freed)
   unfolding non_var
@@ -117,7 +132,7 @@ module _ (k : Kinds) {c : Counters} {records mappings queue freed rows sets : Li
 
   -- ---- A permanent variable
 
-  free_slot-fits : (v : ℕ) → v < k.count → free_slot records v ≤ registers
+  free_slot-fits : (v : ℕ) → v < k.count → PlacedChoice (free_slot records v)
   unfolding free_slot
   free_slot-fits v known = pending-fits k v (record_at records v).allocation (record_fits k h.recorded v known).alloc
 
@@ -126,12 +141,14 @@ module _ (k : Kinds) {c : Counters} {records mappings queue freed rows sets : Li
       (chunk dropped : ℕ) (list : List FreedSlot) → AllFit k list → (most : ℕ) → dropped + length list ≤ most
       → LookedFits k most (looked records chunk dropped list)
   unfolding looked
-  looked-fits chunk dropped [] all most less = record { dropped = omega arith; slot = omega arith; owner = λ some. absurd (omega arith) }
+  looked-fits chunk dropped [] all most less = record { dropped = omega arith; taken = tt }
   looked-fits chunk dropped (entry ∷ rest) all most less =
       either (LookedFits k most) (leb chunk entry.chunk)
-      (record { dropped = omega arith; slot = omega arith; owner = λ some. absurd (omega arith) })
-      (either (LookedFits k most) (ltb 0 (free_slot records entry.variable))
-      (record { dropped = omega arith; slot = free_slot-fits entry.variable all.0.variable; owner = λ some. all.0.variable })
+      (record { dropped = omega arith; taken = tt })
+      (given-fits k (free_slot records entry.variable) (dropped + 1) entry.variable most (looked records chunk (dropped + 1) rest)
+      (free_slot-fits entry.variable all.0.variable)
+      all.0.variable
+      (omega arith)
       (looked-fits chunk (dropped + 1) rest all.1 most (omega arith)))
 
   module _ (v : ℕ) (known : v < k.count) (permanent : k.temporary v ≡ false) where
@@ -153,7 +170,7 @@ module _ (k : Kinds) (v : ℕ) (known : v < k.count) (permanent : k.temporary v 
     unfolding new_slot
     new_slot_valid =
         by_test (PlacementValid k mappings queue freed rows sets) (ltb registers c.perm_lb)
-        (λ e. record { valid = h; place = λ none. absurd (omega arith) })
+        (λ e. record { valid = h; place = λ none. absurd (true≢false none) })
         (λ e. (let small = ltb-false registers c.perm_lb e in
         record {
           valid = slot_valid k (slot_given_valid k h v known permanent c.perm_lb small)
@@ -161,21 +178,23 @@ module _ (k : Kinds) (v : ℕ) (known : v < k.count) (permanent : k.temporary v 
           place = λ none. record { some = h.counted.slot.some; last = small };
         }))
 
+    slot_placed_valid :
+        (taken : Option Taken) → TakenFits k taken
+        → PlacementValid k mappings queue freed rows sets (slot_placed taken c records v)
+    slot_placed_valid (Some taken) fits =
+        record {
+          valid = slot_given_valid k (slot_taken_valid k h taken.owner fits.1) v known permanent taken.slot fits.0.last;
+          place = λ none. fits.0;
+        }
+    slot_placed_valid None fits = new_slot_valid
+
   module _ {c : Counters} {records mappings queue freed rows sets : List ℕ} (h : Valid k c records mappings queue freed rows sets) where
     slot_found_valid :
         (found : Looked) → LookedFits k c.freed_slots found
         → PlacementValid k mappings queue freed rows sets (slot_found found c records v)
     unfolding slot_found
     slot_found_valid found fits =
-        by_test (PlacementValid k mappings queue freed rows sets) (ltb 0 found.slot)
-        (λ e. (let some = ltb-true 0 found.slot e in
-        record {
-          valid = front_valid k
-              (slot_given_valid k (slot_taken_valid k h found.owner (fits.owner some)) v known permanent found.slot fits.slot)
-              found.dropped fits.dropped;
-          place = λ none. record { some = some; last = fits.slot };
-        }))
-        (λ e. new_slot_valid (front_valid k h found.dropped fits.dropped))
+        slot_placed_valid (front_valid k h found.dropped fits.dropped) found.taken fits.taken
 
     pub perm_placed_valid : (chunk : ℕ) → PlacementValid k mappings queue freed rows sets (perm_placed c records queue v chunk)
     unfolding perm_placed

@@ -1,5 +1,5 @@
 -- A valid state stays valid after `open`, `arm`, `take` and `close`.
-use Rattle.std.specs.Prelude.{ℕ, ◌+◌, ◌-◌, ◌≤◌, ◌<◌, ◌≡◌, refl, Bool, true, false, ◌||◌, eqb, leb, ltb}
+use Rattle.std.specs.Prelude.{ℕ, ◌+◌, ◌-◌, ◌≤◌, ◌<◌, ◌≡◌, refl, Bool, true, false, ◌||◌, eqb, leb, ltb, Result, ⊤}
 use Rattle.std.proofs.Math.Path.{sym}
 use Rattle.std.proofs.Common.{◌∙◌, arith}
 use Rattle.std.proofs.lemmas.Bool.{false≢true}
@@ -14,10 +14,7 @@ use Rattle.variable_records.specs.Rows.{record_at, is_temporary}
 use Rattle.branch_stack.specs.declared.BranchOccurrences.{BranchOccurrences}
 use Rattle.branch_stack.specs.BranchStack.{rows_put, sets_put, branch_opened}
 use Rattle.allocator_state.specs.declared.Counters.{Counters}
-use Rattle.branches.specs.declared.Opened.{Opened}
-use Rattle.branches.specs.declared.Advanced.{Advanced}
-use Rattle.branches.specs.declared.Taken.{Taken}
-use Rattle.branches.specs.declared.Popped.{Popped}
+use Rattle.branches.specs.declared.BranchError.{BranchError}
 use Rattle.branches.specs.Lists.{each}
 use Rattle.branches.specs.Branches.{open_refusal, arm_refusal, take_refusal, close_refusal, unless_refused, top_of, rows_top, sets_top, opening, rows_opened, sets_opened}
 use Rattle.branches.specs.Branches.{next_arm, advanced, rows_advanced, sets_advanced, names_temporary, nowhere_recorded, allocation_met, variable_closed, occurrences_added, popped, left_on_top, records_popped, rows_popped, sets_popped}
@@ -94,7 +91,7 @@ module _ (k : Kinds) {c : Counters} {records mappings queue freed rows sets : Li
       let level = c.open_branches in
       let branch = branch_opened (branch_from start span) arms in
       by_test
-      (λ (o : Opened).
+      (λ (o : Result ℕ BranchError).
       Valid k (open_released c o).counters records mappings queue freed
       (unless_refused (open_refusal o) rows (rows_put rows level branch))
       (unless_refused (open_refusal o) sets (sets_put sets level branch)))
@@ -111,7 +108,7 @@ module _ (k : Kinds) {c : Counters} {records mappings queue freed rows sets : Li
       let top = top_of rows sets level in
       let t = top_fits k h.opened in
       let branch = next_arm top (branch_from start span) in
-      let After : Advanced → Type 0 = λ a.
+      let After : Result ⊤ BranchError → Type 0 = λ a.
       Valid k c records mappings queue freed
       (unless_refused (arm_refusal a) rows (rows_top rows level branch))
       (unless_refused (arm_refusal a) sets (sets_top sets level branch)) in
@@ -128,7 +125,7 @@ module _ (k : Kinds) {c : Counters} {records mappings queue freed rows sets : Li
       let level = c.open_branches in
       let vs = to_take records rows sets level in
       let branch = safety_taken records (top_of rows sets level) in
-      let After : Taken → Type 0 = λ t.
+      let After : Result ⊤ BranchError → Type 0 = λ t.
       Valid k c (unless_refused (take_refusal t) records (each variable_pended records vs)) mappings queue freed
       (unless_refused (take_refusal t) rows (rows_top rows level branch))
       (unless_refused (take_refusal t) sets (sets_top sets level branch)) in
@@ -147,7 +144,7 @@ module _ (k : Kinds) {c : Counters} {records mappings queue freed rows sets : Li
       let level = c.open_branches in
       let met = left_on_top records rows sets level depth vs in
       let branch = occurrences_added met vs in
-      let After : Popped → Type 0 = λ t.
+      let After : Result ℕ BranchError → Type 0 = λ t.
       Valid k (close_released c t).counters (unless_refused (close_refusal t) records (each (variable_closed met) records vs)) mappings queue freed
       (unless_refused (close_refusal t) rows (rows_top rows (level - depth) branch))
       (unless_refused (close_refusal t) sets (sets_top sets (level - depth) branch)) in

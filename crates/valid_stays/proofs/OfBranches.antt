@@ -10,6 +10,7 @@ use borrow.Author.Tests.{eqb-true, eqb-false, leb-true, leb-false}
 use Rattle.std.specs.Prelude.{if◌then◌else◌}
 use Rattle.notation.specs.ChoiceLaws.{either, by_test}
 use Rattle.notation.specs.Lists.{numbers_from}
+use Rattle.refusals.specs.Refusals.{is_refused}
 use Rattle.sizes.specs.Sizes.{variables, counts, open_branches}
 use Rattle.bit_set.specs.BitSet.{last_member, has, empty_set, inserted, union}
 use Rattle.bit_set.specs.BitSetLaws.{has-empty, has-inserted, inserted_outside, has-union}
@@ -143,11 +144,11 @@ module _ (k : Kinds) where
             deep = t.deep;
             hits = all_inserted (Permanent k) top.subsumed_hits v t.hits permanent;
           }) in
-          elim (eqb (record_refusal (recorded rows sets opened)) 0) as
+          elim (is_refused (record_refusal (recorded rows sets opened))) as
           (λ t. Branches k opened
-          (if t then rows_top rows opened (occurrence_added top v) else rows)
-          (if t then sets_top sets opened (occurrence_added top v) else sets))
-          [ true ↦ put | false ↦ all ]
+          (if t then rows else rows_top rows opened (occurrence_added top v))
+          (if t then sets else sets_top sets opened (occurrence_added top v)))
+          [ true ↦ all | false ↦ put ]
 
   module _ {opened : ℕ} {rows sets : List ℕ} (all : Branches k opened rows sets) where
     -- ---- `close`: the branch left on top, joined by the levels removed

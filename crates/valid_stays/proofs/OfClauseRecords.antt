@@ -21,7 +21,8 @@ use Rattle.temp_var_data.specs.Uses.{takes_use, use_sets_with, use_counts_with}
 use Rattle.allocator_state.specs.declared.Counters.{Counters}
 use Rattle.allocator_state.specs.Counters.{with_records}
 use Rattle.events.specs.Events.{is_use}
-use Rattle.clause_records.specs.ClauseRecords.{UseTables, with_use, uses_given}
+use Rattle.restricting_sets.specs.declared.VariableSets.{VariableSets}
+use Rattle.clause_records.specs.ClauseRecords.{with_use, uses_given}
 use Rattle.valid_states.specs.ValidStates.{names_none_or, row_fits}
 use Rattle.invariants.specs.Lists.{All, each_keeps}
 use Rattle.valid_stays.specs.Tests.{one_of, left_so, right_so}
@@ -293,27 +294,35 @@ module _ (k : Kinds) (v : ℕ) (known : v < k.count) where
               refl;
         }
 
-  taken_room : (t : UseTables) (code : ℕ) → takes_use t.use_sets t.use_counts v code ≡ true → get_or t.use_counts v 0 < uses
+  taken_room : (s : VariableSets) (code : ℕ) → takes_use s.use_sets s.use_counts v code ≡ true → get_or s.use_counts v 0 < uses
   unfolding takes_use
-  taken_room t code e =
-      let b = both_true (ltb v variables && ltb (get_or t.use_counts v 0) uses) _ e in
-      ltb-true _ _ (both_true (ltb v variables) (ltb (get_or t.use_counts v 0) uses) b.0).1
+  taken_room s code e =
+      let b = both_true (ltb v variables && ltb (get_or s.use_counts v 0) uses) _ e in
+      ltb-true _ _ (both_true (ltb v variables) (ltb (get_or s.use_counts v 0) uses) b.0).1
 
-  abbrev UsesOf : UseTables → Type 0
-  UsesOf t = Uses k t.use_sets t.use_counts
+  abbrev UsesOf : VariableSets → Type 0
+  UsesOf s = Uses k s.use_sets s.use_counts
 
-  use_given : (t : UseTables) (code : ℕ) → is_use code ≡ true → UsesOf t → UsesOf (with_use v t code)
+  use_given : (s : VariableSets) (code : ℕ) → is_use code ≡ true → UsesOf s → UsesOf (with_use v s code)
   unfolding use_sets_with use_counts_with
-  use_given t code is_one was =
-      let n = get_or t.use_counts v 0 in
-      elim (takes_use t.use_sets t.use_counts v code) as
-      (λ taken. takes_use t.use_sets t.use_counts v code ≡ taken
-      → Uses k (if taken then set t.use_sets (v * uses + n) code else t.use_sets) (if taken then set t.use_counts v (n + 1) else t.use_counts)) [
-        | true ↦ λ e. uses-taken t.use_sets t.use_counts was code is_one (taken_room t code e)
+  use_given s code is_one was =
+      let n = get_or s.use_counts v 0 in
+      elim (takes_use s.use_sets s.use_counts v code) as
+      (λ taken. takes_use s.use_sets s.use_counts v code ≡ taken
+      → Uses k (if taken then set s.use_sets (v * uses + n) code else s.use_sets) (if taken then set s.use_counts v (n + 1) else s.use_counts)) [
+        | true ↦ λ e. uses-taken s.use_sets s.use_counts was code is_one (taken_room s code e)
         | false ↦ λ e. was
       ]
       refl
 
-  pub uses_given_lem : (t : UseTables) → UsesOf t → (codes : List ℕ) → All (λ code. is_use code ≡ true) codes → UsesOf (uses_given t v codes)
+  pub uses_given_lem : (s : VariableSets) → UsesOf s → (codes : List ℕ) → All (λ code. is_use code ≡ true) codes → UsesOf (uses_given s v codes)
   unfolding uses_given
-  uses_given_lem t was codes all = each_keeps UsesOf (λ code. is_use code ≡ true) (with_use v) use_given t codes all was
+  uses_given_lem s was codes all = each_keeps UsesOf (λ code. is_use code ≡ true) (with_use v) use_given s codes all was
+
+  -- the other sets stay
+  pub uses_given_restricted :
+      (s : VariableSets) → Restricted k s.no_use s.conflict → (codes : List ℕ) → All (λ code. is_use code ≡ true) codes
+      → Restricted k (uses_given s v codes).no_use (uses_given s v codes).conflict
+  unfolding uses_given
+  uses_given_restricted s was codes all =
+      each_keeps (λ (t : VariableSets). Restricted k t.no_use t.conflict) (λ code. is_use code ≡ true) (with_use v) (λ t code is_one r. r) s codes all was

@@ -1,5 +1,5 @@
 -- A valid state stays valid where an argument's register is emptied: the register chosen is one.
-use Rattle.std.specs.Prelude.{ℕ, zero, suc, ◌-◌, ◌*◌, ◌≤◌, ◌<◌, min, ◌≡◌, refl, Bool, true, List, [], ◌∷◌, map, eqb, leb, get_or, take, drop}
+use Rattle.std.specs.Prelude.{Option, Some, None, ℕ, zero, suc, ◌-◌, ◌*◌, ◌≤◌, ◌<◌, min, ◌≡◌, refl, Bool, true, List, [], ◌∷◌, map, eqb, leb, get_or, take, drop}
 use Rattle.std.proofs.Math.Bool.{not}
 use Rattle.std.proofs.Common.{inl, inr, arith, get_or-drop, leb-false}
 use Rattle.notation.specs.ChoiceLaws.{both_true, either, by_test}
@@ -13,12 +13,11 @@ use Rattle.shallow_temp_mappings.specs.Mappings.{unmapped, mapped_at}
 use Rattle.register_sets.specs.RegisterSets.{set_at}
 use Rattle.temp_var_data.specs.Uses.{register_of, context_of, uses_of, contains_use, use_code, last_context}
 use Rattle.allocator_state.specs.declared.Counters.{Counters}
-use Rattle.choice.specs.declared.Chosen.{Chosen}
-use Rattle.choice.specs.declared.Chosen.TheVariants.{Register, NoRegister}
 use Rattle.choice.specs.Choice.{in_use, is_free, first, registers_from, first_unused, least_free, least_outside, otherwise, chosen}
 use Rattle.evacuation.specs.declared.Hint.{Hint}
 use Rattle.evacuation.specs.declared.Hint.TheVariants.{Stays, Moves, NoRegister as Nowhere}
-use Rattle.evacuation.specs.Evacuation.{Sets, Evacuation, alloc_with_cr, alloc_with_ca, hint, hint_to, moved_to, evacuated_by, evacuated}
+use Rattle.restricting_sets.specs.declared.VariableSets.{VariableSets}
+use Rattle.evacuation.specs.Evacuation.{Evacuation, alloc_with_cr, alloc_with_ca, hint, hint_to, moved_to, evacuated_by, evacuated}
 use Rattle.events.specs.Events.{is_use, is_context}
 use Rattle.invariants.specs.Lists.{All, all_map}
 use Rattle.valid_stays.specs.Fits.{Kinds, Placed, Counts, Temporary, Valid, Uses}
@@ -49,9 +48,9 @@ uses_placed k {use_sets} {use_counts} fit v known =
 -- ---- The choice
 
 -- a register that is chosen is one
-abbrev pub PlacedChoice : Chosen → Type 0
-PlacedChoice (Register r) = Placed r
-PlacedChoice NoRegister = Unit {0}
+abbrev pub PlacedChoice : Option ℕ → Type 0
+PlacedChoice (Some r) = Placed r
+PlacedChoice None = Unit {0}
 
 first_placed : (test : ℕ → Bool) (rs : List ℕ) → All Placed rs → PlacedChoice (first test rs)
 unfolding first
@@ -68,10 +67,10 @@ search_placed : (test : ℕ → Bool) (r : ℕ) → 1 ≤ r → PlacedChoice (fi
 unfolding registers_from
 search_placed test r some = first_placed test _ (numbers_placed r (suc registers - r) some (omega arith))
 
-otherwise_placed : (a b : Chosen) → PlacedChoice a → PlacedChoice b → PlacedChoice (otherwise a b)
+otherwise_placed : (a b : Option ℕ) → PlacedChoice a → PlacedChoice b → PlacedChoice (otherwise a b)
 unfolding otherwise
-otherwise_placed (Register r) b g h = g
-otherwise_placed NoRegister b g h = h
+otherwise_placed (Some r) b g h = g
+otherwise_placed None b g h = h
 
 module _ (k : Kinds) where
   chosen_placed :
@@ -92,12 +91,12 @@ module _ (k : Kinds) (queue freed rows branch_sets : List ℕ) where
   abbrev pub EvacuationValid : Evacuation → Type 0
   EvacuationValid e = Valid k e.reached.counters e.records e.mappings queue freed rows branch_sets
 
-module _ (k : Kinds) (s : Sets) (fit : Uses k s.use_sets s.use_counts) where
+module _ (k : Kinds) (s : VariableSets) (fit : Uses k s.use_sets s.use_counts) where
   module _ (c : Counters) (n : Counts k c) (v : ℕ) (known : v < k.count) where
-    pub cr_placed : PlacedChoice (alloc_with_cr c s.use_sets s.use_counts s.no_use v)
+    pub cr_placed : PlacedChoice (alloc_with_cr c s v)
     cr_placed = chosen_placed k c n (uses_of s.use_sets s.use_counts v) (set_at s.no_use v) (uses_placed k fit v known)
 
-    pub ca_placed : PlacedChoice (alloc_with_ca c s.use_sets s.use_counts s.no_use s.conflict v)
+    pub ca_placed : PlacedChoice (alloc_with_ca c s v)
     ca_placed =
         chosen_placed k c n (uses_of s.use_sets s.use_counts v) (union (set_at s.no_use v) (set_at s.conflict v))
         (uses_placed k fit v known)
@@ -109,9 +108,9 @@ module _ (k : Kinds) (s : Sets) (fit : Uses k s.use_sets s.use_counts) where
   HintFits Nowhere = Unit {0}
   HintFits (Moves v r) = Temporary k v × Placed r
 
-  hint_to-fits : (v : ℕ) (choice : Chosen) → Temporary k v → PlacedChoice choice → HintFits (hint_to v choice)
-  hint_to-fits v (Register r) temporary g = (temporary, g)
-  hint_to-fits v NoRegister temporary g = tt
+  hint_to-fits : (v : ℕ) (choice : Option ℕ) → Temporary k v → PlacedChoice choice → HintFits (hint_to v choice)
+  hint_to-fits v (Some r) temporary g = (temporary, g)
+  hint_to-fits v None temporary g = tt
 
   module _ {c : Counters} {records mappings queue freed rows branch_sets : List ℕ}
       (h : Valid k c records mappings queue freed rows branch_sets) where
@@ -123,7 +122,7 @@ module _ (k : Kinds) (s : Sets) (fit : Uses k s.use_sets s.use_counts) where
         (λ e. (let temporary = named-temporary k v (mapped_at_lem k h.mapped c.arg_c) (leb-false variables v e) in
         either HintFits (not (is_temporary records v)) tt
         (either HintFits (contains_use (uses_of s.use_sets s.use_counts v) (use_code (last_context chunk) c.arg_c)) tt
-        (hint_to-fits v (alloc_with_ca c s.use_sets s.use_counts s.no_use s.conflict v) temporary
+        (hint_to-fits v (alloc_with_ca c s v) temporary
         (ca_placed c h.counted v temporary.0)))))
 
     moved_valid :

@@ -1,9 +1,10 @@
 -- A valid state stays valid where a variable is marked.
-use Rattle.std.specs.Prelude.{ℕ, ◌≤◌, ◌<◌, ◌≡◌, Bool, List, eqb, ltb}
-use Rattle.std.proofs.Common.{inr, arith}
+use Rattle.std.specs.Prelude.{Option, Some, None, ℕ, ◌≤◌, ◌<◌, ◌≡◌, Bool, List, eqb}
+use Rattle.std.proofs.Common.{inr, arith, sym, true≢false, ◌∙◌}
 use Rattle.std.proofs.Math.Bool.{true, false}
-use borrow.Author.Tests.{ltb-true, ltb-false, eqb-false}
+use borrow.Author.Tests.{eqb-false}
 use Rattle.notation.specs.ChoiceLaws.{either, by_test}
+use Rattle.refusals.specs.Refusals.{is_refused}
 use Rattle.sizes.specs.Sizes.{registers, chunks}
 use Rattle.registers.specs.declared.RegType.{RegType}
 use Rattle.registers.specs.declared.RegType.TheVariants.{Temp as TempRegister, Perm as PermSlot}
@@ -23,13 +24,12 @@ use Rattle.variable_records.specs.declared.VarAlloc.TheVariants.{Temp, Perm}
 use Rattle.variable_records.specs.Rows.{record_at}
 use Rattle.branch_stack.specs.BranchStack.{current_branch}
 use Rattle.allocator_state.specs.declared.Counters.{Counters}
-use Rattle.choice.specs.declared.Chosen.{Chosen}
-use Rattle.choice.specs.declared.Chosen.TheVariants.{Register, NoRegister}
 use Rattle.evacuation.specs.declared.Reached.{Reached}
-use Rattle.evacuation.specs.Evacuation.{Sets, Evacuation, alloc_with_cr, alloc_with_ca, going_on, evacuated}
+use Rattle.restricting_sets.specs.declared.VariableSets.{VariableSets}
+use Rattle.evacuation.specs.Evacuation.{Evacuation, alloc_with_cr, alloc_with_ca, going_on, evacuated}
 use Rattle.allocation.specs.Allocation.{Placement, perm_placed}
 use Rattle.marks.specs.Marks.{RegisterPlacement, chosen_or_refused, alloc_apart, after_evacuation, alloc_shallow, register_placed}
-use Rattle.mark_var.specs.declared.Mark.{Mark}
+use Rattle.reserved_var.specs.declared.Mark.{Mark}
 use Rattle.mark_var.specs.MarkVar.{Noted, noted_slot, noted, settled, Marking, finished_after, finished, instructed_at, instructed_for, reserved_after, reserved_marked}
 use Rattle.mark_var.specs.MarkVar.{VarMark, marked_at, new_temporary_after, new_temporary_marked, new_slot_after, new_slot_marked, slot_marked}
 use Rattle.mark_var.specs.MarkVar.{temporary_marked, permanent_marked, marked_by, var_marked}
@@ -66,7 +66,7 @@ module _ (k : Kinds) (queue freed rows sets : List ℕ) where
   -- the register of a placement that is not refused is one
   pub record RegisterValid (p : RegisterPlacement) : Type 0 where
     pub valid : Valid k p.placed.reached.counters p.records p.mappings queue freed rows sets
-    pub place : p.placed.reached.refusal ≤ 0 → Placed p.placed.place
+    pub place : is_refused p.placed.reached.refusal ≡ false → Placed p.placed.place
 
 module _ (k : Kinds) (v : ℕ) (known : v < k.count) (context : GenContext) (small : chunk_num context ≤ chunks) where
   module _ {c : Counters} {records mappings queue freed rows sets : List ℕ} (h : Valid k c records mappings queue freed rows sets) where
@@ -94,7 +94,7 @@ module _ (k : Kinds) (v : ℕ) (known : v < k.count) (context : GenContext) (sma
       → MarkingValid k freed (finished_after n c records queue v context place code)
   unfolding finished_after
   finished_after_valid {c} {records} {queue} {freed} n h place placed code =
-      either (MarkingValid k freed) (ltb 0 n.refusal) h (settled_valid h place placed)
+      either (MarkingValid k freed) (is_refused n.refusal) h (settled_valid h place placed)
 
   finished_valid :
       {c : Counters} {records mappings queue freed rows sets : List ℕ} → Valid k c records mappings queue freed rows sets
@@ -105,16 +105,16 @@ module _ (k : Kinds) (v : ℕ) (known : v < k.count) (context : GenContext) (sma
       finished_after_valid (noted mappings rows sets c.open_branches v place is_new) (noted_valid h place fits is_new) place
       (number_placed k v place fits) code
 
-module _ (k : Kinds) (s : Sets) (fit : Uses k s.use_sets s.use_counts) where
+module _ (k : Kinds) (s : VariableSets) (fit : Uses k s.use_sets s.use_counts) where
   -- ---- A register for a new temporary
 
   module _ {queue freed rows sets : List ℕ} (records mappings : List ℕ) where
     chosen_or_refused_valid :
         (reached : Reached) → Valid k reached.counters records mappings queue freed rows sets
-        → (choice : Chosen) → PlacedChoice choice
+        → (choice : Option ℕ) → PlacedChoice choice
         → RegisterValid k queue freed rows sets (record { records = records; mappings = mappings; placed = chosen_or_refused reached choice })
-    chosen_or_refused_valid reached h (Register r) g = record { valid = h; place = λ none. g }
-    chosen_or_refused_valid reached h NoRegister g = record { valid = h; place = λ none. absurd (omega arith) }
+    chosen_or_refused_valid reached h (Some r) g = record { valid = h; place = λ none. g }
+    chosen_or_refused_valid reached h None g = record { valid = h; place = λ none. absurd (true≢false none) }
 
   module _ (v : ℕ) (known : v < k.count) where
     after_evacuation_valid :
@@ -123,10 +123,10 @@ module _ (k : Kinds) (s : Sets) (fit : Uses k s.use_sets s.use_counts) where
     unfolding after_evacuation
     after_evacuation_valid {queue} {freed} {rows} {sets} e h =
         let c = e.reached.counters in
-        by_test (RegisterValid k queue freed rows sets) (ltb 0 e.reached.refusal)
-        (λ refused. record { valid = h; place = λ none. absurd (omega (arith, ltb-true 0 e.reached.refusal refused)) })
+        by_test (RegisterValid k queue freed rows sets) (is_refused e.reached.refusal)
+        (λ refused. record { valid = h; place = λ none. absurd (true≢false (sym refused ∙ none)) })
         (λ accepted. chosen_or_refused_valid e.records e.mappings e.reached h
-        (alloc_with_cr c s.use_sets s.use_counts s.no_use v) (cr_placed k s fit c h.counted v known))
+        (alloc_with_cr c s v) (cr_placed k s fit c h.counted v known))
 
     module _ {c : Counters} {records mappings queue freed rows sets : List ℕ} (h : Valid k c records mappings queue freed rows sets) where
       apart_valid :
@@ -135,7 +135,7 @@ module _ (k : Kinds) (s : Sets) (fit : Uses k s.use_sets s.use_counts) where
       unfolding alloc_apart
       apart_valid code =
           chosen_or_refused_valid records mappings (going_on c code) h
-          (alloc_with_ca c s.use_sets s.use_counts s.no_use s.conflict v) (ca_placed k s fit c h.counted v known)
+          (alloc_with_ca c s v) (ca_placed k s fit c h.counted v known)
 
       shallow_valid : (chunk : ℕ) (code : CodeDeque) → RegisterValid k queue freed rows sets (alloc_shallow c records mappings s v chunk code)
       unfolding alloc_shallow
@@ -159,7 +159,7 @@ module _ (k : Kinds) (s : Sets) (fit : Uses k s.use_sets s.use_counts) where
         → (place : RegType) (is_new : Bool) (level : Level) (branch : Branch) (code : CodeDeque)
         → EvacuationValid k queue freed rows sets (instructed_at level c records mappings s mark place is_new branch code)
     instructed_at_valid h place is_new Deep branch code =
-        subterm_made_valid k h mark.variable known s.use_sets s.use_counts mark.target mark.context place is_new branch code
+        subterm_made_valid k h mark.variable known s mark.target mark.context place is_new branch code
     instructed_at_valid h place is_new Root branch code =
         argument_marked_valid k s fit mark.variable known h mark.target Root mark.context place is_new branch code
     instructed_at_valid h place is_new Shallow branch code =
@@ -171,7 +171,7 @@ module _ (k : Kinds) (s : Sets) (fit : Uses k s.use_sets s.use_counts) where
         → MarkingValid k freed (reserved_after e queue rows sets mark place is_new)
     unfolding reserved_after
     reserved_after_valid {queue} {freed} e h place fits is_new =
-        either (MarkingValid k freed) (ltb 0 e.reached.refusal) h
+        either (MarkingValid k freed) (is_refused e.reached.refusal) h
         (finished_valid k mark.variable known mark.context small h place fits is_new e.reached.code)
 
     marked_at_valid :
@@ -190,9 +190,9 @@ module _ (k : Kinds) (s : Sets) (fit : Uses k s.use_sets s.use_counts) where
         → VarMarkValid k freed (new_temporary_after p s queue rows sets mark)
     unfolding new_temporary_after
     new_temporary_after_valid {queue} {freed} p g temporary =
-        by_test (VarMarkValid k freed) (ltb 0 p.placed.reached.refusal) (λ e. g.valid)
+        by_test (VarMarkValid k freed) (is_refused p.placed.reached.refusal) (λ e. g.valid)
         (λ e. marked_at_valid g.valid (TempRegister p.placed.place)
-        (temporary, g.place (ltb-false 0 p.placed.reached.refusal e)) true p.placed.reached.code)
+        (temporary, g.place e) true p.placed.reached.code)
 
     new_slot_after_valid :
         {mappings queue freed rows sets : List ℕ} (p : Placement) → PlacementValid k mappings queue freed rows sets p
@@ -200,8 +200,8 @@ module _ (k : Kinds) (s : Sets) (fit : Uses k s.use_sets s.use_counts) where
         → VarMarkValid k freed (new_slot_after p mappings s queue rows sets mark)
     unfolding new_slot_after
     new_slot_after_valid {mappings} {queue} {freed} p g permanent =
-        by_test (VarMarkValid k freed) (ltb 0 p.placed.refusal) (λ e. g.valid)
-        (λ e. marked_at_valid g.valid (PermSlot p.placed.place) (permanent, g.place (ltb-false 0 p.placed.refusal e)) true Empty)
+        by_test (VarMarkValid k freed) (is_refused p.placed.refusal) (λ e. g.valid)
+        (λ e. marked_at_valid g.valid (PermSlot p.placed.place) (permanent, g.place e) true Empty)
 
     module _ {c : Counters} {records mappings queue freed rows sets : List ℕ} (h : Valid k c records mappings queue freed rows sets) where
       new_temporary_valid :

@@ -1,8 +1,9 @@
 -- A valid state stays valid where what is no ordinary occurrence of a variable is marked.
-use Rattle.std.specs.Prelude.{ℕ, ◌<◌, ◌≡◌, false, List, eqb, ltb}
+use Rattle.std.specs.Prelude.{Option, Some, None, ℕ, ◌<◌, ◌≡◌, false, List, eqb}
 use native.Mathlib.Omega.{arith}
 use borrow.Author.Tests.{eqb-false}
 use Rattle.notation.specs.ChoiceLaws.{either, by_test}
+use Rattle.refusals.specs.Refusals.{is_refused, accepted}
 use Rattle.registers.specs.declared.RegType.{RegType}
 use Rattle.registers.specs.declared.RegType.TheVariants.{Temp as TempRegister}
 use Rattle.instructions.specs.declared.Instruction.{Instruction}
@@ -18,10 +19,8 @@ use Rattle.variable_records.specs.declared.VarAlloc.TheVariants.{Temp, Perm}
 use Rattle.variable_records.specs.Records.{allocated}
 use Rattle.variable_records.specs.Rows.{record_at}
 use Rattle.allocator_state.specs.declared.Counters.{Counters}
-use Rattle.choice.specs.declared.Chosen.{Chosen}
-use Rattle.choice.specs.declared.Chosen.TheVariants.{Register, NoRegister}
 use Rattle.evacuation.specs.declared.Reached.{Reached}
-use Rattle.evacuation.specs.Evacuation.{Sets}
+use Rattle.restricting_sets.specs.declared.VariableSets.{VariableSets}
 use Rattle.allocation.specs.Allocation.{Placement, non_var, perm_placed}
 use Rattle.marks.specs.declared.Marked.{Marked}
 use Rattle.other_marks.specs.OtherMarks.{emptied_in, turn_taken, marked_at, instructed_at, MarkOf, anon_argument, is_argument, anon_placed, anon_chosen, anon_marked}
@@ -52,15 +51,15 @@ module _ (k : Kinds) {records mappings queue freed rows sets : List ℕ} (reache
     (h : Valid k reached.counters records mappings queue freed rows sets) (place : RegType) where
   marked_at_valid : MarkedValid k records mappings queue freed rows sets (marked_at reached place)
   unfolding marked_at
-  marked_at_valid = either (MarkedValid k records mappings queue freed rows sets) (ltb 0 reached.refusal) h h
+  marked_at_valid = either (MarkedValid k records mappings queue freed rows sets) (is_refused reached.refusal) h h
 
   instructed_valid : (instruction : Instruction) → MarkedValid k records mappings queue freed rows sets (instructed_at reached instruction place)
   unfolding instructed_at
-  instructed_valid instruction = either (MarkedValid k records mappings queue freed rows sets) (ltb 0 reached.refusal) h h
+  instructed_valid instruction = either (MarkedValid k records mappings queue freed rows sets) (is_refused reached.refusal) h h
 
 -- ---- An anonymous variable, and a term that is no variable
 
-module _ (k : Kinds) (s : Sets) (fit : Uses k s.use_sets s.use_counts) where
+module _ (k : Kinds) (s : VariableSets) (fit : Uses k s.use_sets s.use_counts) where
   module _ {c : Counters} {records mappings queue freed rows sets : List ℕ} (h : Valid k c records mappings queue freed rows sets) where
     emptied_valid : (context : GenContext) → EvacuationValid k queue freed rows sets (emptied_in context c records mappings s)
     emptied_valid Head = h
@@ -84,7 +83,7 @@ module _ (k : Kinds) (s : Sets) (fit : Uses k s.use_sets s.use_counts) where
     unfolding anon_placed
     anon_placed_valid target level context place =
         either (MarkValid k queue freed rows sets) (is_argument level) (anon_argument_valid target context place)
-        (instructed_valid k (record { counters = c; code = Empty; refusal = 0 }) h place _)
+        (instructed_valid k (record { counters = c; code = Empty; refusal = accepted }) h place _)
 
     non_var_argument_valid : (context : GenContext) → MarkValid k queue freed rows sets (non_var_argument c records mappings s context)
     unfolding non_var_argument
@@ -92,10 +91,10 @@ module _ (k : Kinds) (s : Sets) (fit : Uses k s.use_sets s.use_counts) where
 
   module _ {c : Counters} {records mappings queue freed rows sets : List ℕ} (h : Valid k c records mappings queue freed rows sets) where
     anon_chosen_valid :
-        (choice : Chosen) (target : Target) (level : Level) (context : GenContext)
+        (choice : Option ℕ) (target : Target) (level : Level) (context : GenContext)
         → MarkValid k queue freed rows sets (anon_chosen choice c records mappings s target level context)
-    anon_chosen_valid NoRegister target level context = h
-    anon_chosen_valid (Register r) target level context = anon_placed_valid h target level context (TempRegister r)
+    anon_chosen_valid None target level context = h
+    anon_chosen_valid (Some r) target level context = anon_placed_valid h target level context (TempRegister r)
 
   module _ {c : Counters} {records mappings queue freed rows sets : List ℕ} (h : Valid k c records mappings queue freed rows sets) where
     pub anon_marked_valid :
@@ -105,10 +104,10 @@ module _ (k : Kinds) (s : Sets) (fit : Uses k s.use_sets s.use_counts) where
     anon_marked_valid target level context = anon_chosen_valid (non_var_valid k h).valid (non_var c freed).chosen target level context
 
     term_chosen_valid :
-        (choice : Chosen) (after : Counters) → Valid k after records mappings queue freed rows sets
+        (choice : Option ℕ) (after : Counters) → Valid k after records mappings queue freed rows sets
         → MarkedValid k records mappings queue freed rows sets (term_chosen choice after)
-    term_chosen_valid NoRegister after v = v
-    term_chosen_valid (Register r) after v = v
+    term_chosen_valid None after v = v
+    term_chosen_valid (Some r) after v = v
 
     term_marked_valid : MarkedValid k records mappings queue freed rows sets (term_marked c freed)
     unfolding term_marked
@@ -136,14 +135,14 @@ module _ (k : Kinds) (v : ℕ) (known : v < k.count) where
       → CutValid k mappings queue freed rows sets (slot_cut_by p)
   unfolding slot_cut_by
   slot_cut_by_valid {mappings} {queue} {freed} {rows} {sets} p g =
-      either (CutValid k mappings queue freed rows sets) (ltb 0 p.placed.refusal) g.valid g.valid
+      either (CutValid k mappings queue freed rows sets) (is_refused p.placed.refusal) g.valid g.valid
 
   register_cut_by_valid :
       {c : Counters} {records mappings queue freed rows sets : List ℕ} → Valid k c records mappings queue freed rows sets
-      → (choice : Chosen) → PlacedChoice choice → (context : GenContext) (to_perm : ℕ) → AllocFits k v (Temp context 0 GloballyUnneeded to_perm)
+      → (choice : Option ℕ) → PlacedChoice choice → (context : GenContext) (to_perm : ℕ) → AllocFits k v (Temp context 0 GloballyUnneeded to_perm)
       → CutValid k mappings queue freed rows sets (register_cut_by choice c records v (record_at records v) context to_perm)
-  register_cut_by_valid h NoRegister g context to_perm a = h
-  register_cut_by_valid {c} {records} h (Register r) g context to_perm a =
+  register_cut_by_valid h None g context to_perm a = h
+  register_cut_by_valid {c} {records} h (Some r) g context to_perm a =
       put_valid k h v known (allocated (record_at records v) (Temp context r GloballyUnneeded to_perm))
       (allocated-fits k v (record_fits k h.recorded v known) (Temp context r GloballyUnneeded to_perm) (a.0, a.1, g.last, a.3))
 

@@ -1,5 +1,5 @@
 -- What a mark does to a record that fits leaves it one that fits.
-use Rattle.std.specs.Prelude.{ℕ, ◌<◌, eqb, ltb}
+use Rattle.std.specs.Prelude.{ℕ, ◌<◌, eqb, ltb, Option, Some, None}
 use Rattle.std.proofs.Common.{lt-ltb}
 use Rattle.notation.specs.ChoiceLaws.{either}
 use Rattle.forms.specs.declared.Branch.{Branch}
@@ -18,9 +18,8 @@ use Rattle.variable_records.specs.Records.{allocated}
 use Rattle.variable_records.specs.Rows.{unset}
 use Rattle.variable_records.specs.Safety.{safety_unneeded}
 use Rattle.record_marks.specs.declared.MarkedSafe.{MarkedSafe}
-use Rattle.record_marks.specs.declared.MarkedSafe.TheVariants.{Safe, FromTemporary, Stopped}
+use Rattle.record_marks.specs.declared.MarkedSafe.TheVariants.{Safe, FromTemporary}
 use Rattle.record_marks.specs.declared.Valued.{Valued}
-use Rattle.record_marks.specs.declared.Valued.TheVariants.{Value, Stopped as Halted}
 use Rattle.record_marks.specs.RecordMarks.{argument_safe, argument_value_of, argument_value, subterm_value_of, subterm_value}
 use Rattle.record_marks.specs.RecordMarks.{safe_in, safe_argument, safe_at, marked_safe_of, marked_safe, unconditionally_of, marked_unconditionally, remembered_of, remembered_perm}
 use Rattle.valid_stays.specs.Tests.{right_so}
@@ -33,14 +32,18 @@ module _ (k : Kinds) (w : ℕ) where
   allocated-fits h allocation a = record { alloc = a; occurrences = h.occurrences; running = h.running }
 
   -- a record that comes out of a mark fits
-  abbrev pub SafeFits : MarkedSafe → Type 0
-  SafeFits (Safe variable) = RecordFits k w variable
-  SafeFits FromTemporary = Unit {0}
-  SafeFits Stopped = Unit {0}
+  abbrev pub MadeFits : Option VariableRecord → Type 0
+  MadeFits (Some variable) = RecordFits k w variable
+  MadeFits None = Unit {0}
 
-  abbrev pub ValueFits : Valued → Type 0
-  ValueFits (Value variable instruction) = RecordFits k w variable
-  ValueFits Halted = Unit {0}
+  abbrev pub SafeFits : Option MarkedSafe → Type 0
+  SafeFits (Some (Safe variable)) = RecordFits k w variable
+  SafeFits (Some FromTemporary) = Unit {0}
+  SafeFits None = Unit {0}
+
+  abbrev pub ValueFits : Option Valued → Type 0
+  ValueFits (Some valued) = RecordFits k w valued.variable
+  ValueFits None = Unit {0}
 
   module _ (variable : VariableRecord) (h : RecordFits k w variable) where
     -- ---- Met before
@@ -72,14 +75,14 @@ module _ (k : Kinds) (w : ℕ) where
       unfolding safe_in
       safe_in-fits = allocated-fits h _ a
 
-      safe_argument-fits : (deep : VarSafetyStatus) (context : GenContext) → SafeFits (safe_argument variable slot deep context)
+      safe_argument-fits : (deep : VarSafetyStatus) (context : GenContext) → SafeFits (Some (safe_argument variable slot deep context))
       safe_argument-fits deep Head = allocated-fits h _ a
       safe_argument-fits deep (Mid chunk) = tt
       safe_argument-fits deep (Last chunk) = tt
 
       safe_at-fits :
           (level : Level) (deep : VarSafetyStatus) (context : GenContext)
-          → SafeFits (safe_at level variable slot deep context branch)
+          → SafeFits (Some (safe_at level variable slot deep context branch))
       safe_at-fits Deep deep context = safe_in-fits
       safe_at-fits Root deep context = safe_argument-fits deep context
       safe_at-fits Shallow deep context = safe_argument-fits deep context
@@ -92,14 +95,14 @@ module _ (k : Kinds) (w : ℕ) where
     safe_of_fits (Perm slot (Done shallow deep)) a level context branch = safe_at-fits slot a branch level deep context
 
     unconditionally_of-fits :
-        (allocation : VarAlloc) → AllocFits k w allocation → (branch : Branch) → SafeFits (unconditionally_of allocation variable branch)
+        (allocation : VarAlloc) → AllocFits k w allocation → (branch : Branch) → MadeFits (unconditionally_of allocation variable branch)
     unconditionally_of-fits (Temp context register safety to_perm) a branch = allocated-fits h _ a
     unconditionally_of-fits (Perm slot Pending) a branch = tt
     unconditionally_of-fits (Perm slot (Done shallow deep)) a branch = safe_in-fits slot a branch
 
     remembered_of-fits :
         (allocation : VarAlloc) → AllocFits k w allocation → (v : ℕ) → v < k.count
-        → SafeFits (remembered_of allocation variable v)
+        → MadeFits (remembered_of allocation variable v)
     remembered_of-fits (Temp context register safety to_perm) a v known =
         allocated-fits h (Temp context register safety v)
         (a.0, a.1, a.2, right_so (eqb v unset) (ltb v k.count) (lt-ltb v k.count known))
@@ -122,8 +125,8 @@ module _ (k : Kinds) (w : ℕ) where
         → SafeFits (marked_safe variable level context branch)
     safe_fits = safe_of_fits variable.allocation h.alloc
 
-    pub unconditionally_fits : (branch : Branch) → SafeFits (marked_unconditionally variable branch)
+    pub unconditionally_fits : (branch : Branch) → MadeFits (marked_unconditionally variable branch)
     unconditionally_fits = unconditionally_of-fits variable.allocation h.alloc
 
-    pub remembered-fits : (v : ℕ) → v < k.count → SafeFits (remembered_perm variable v)
+    pub remembered-fits : (v : ℕ) → v < k.count → MadeFits (remembered_perm variable v)
     remembered-fits = remembered_of-fits variable.allocation h.alloc

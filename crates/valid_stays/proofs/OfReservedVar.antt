@@ -1,7 +1,9 @@
 -- A valid state stays valid where an instruction is made for a variable.
-use Rattle.std.specs.Prelude.{ℕ, ◌<◌, Bool, List, eqb, leb, ltb}
+use Rattle.std.specs.Prelude.{ℕ, ◌<◌, Bool, List, eqb, leb, Option, Some, None}
 use Rattle.std.proofs.Common.{leb-false}
 use Rattle.notation.specs.ChoiceLaws.{either, by_test}
+use Rattle.refusals.specs.declared.Refusal.{Refusal}
+use Rattle.refusals.specs.Refusals.{is_refused, accepted}
 use Rattle.sizes.specs.Sizes.{variables}
 use Rattle.forms.specs.Forms.{chunk_num}
 use Rattle.forms.specs.declared.Branch.{Branch}
@@ -12,16 +14,17 @@ use Rattle.registers.specs.declared.RegType.{RegType}
 use Rattle.instructions.specs.declared.Instruction.{Instruction}
 use Rattle.targets.specs.declared.Target.{Target}
 use Rattle.code_deque.specs.declared.CodeDeque.{CodeDeque}
+use Rattle.variable_records.specs.declared.VariableRecord.{VariableRecord}
 use Rattle.variable_records.specs.Rows.{record_at}
 use Rattle.shallow_temp_mappings.specs.Mappings.{mapped_at}
 use Rattle.allocator_state.specs.declared.Counters.{Counters}
 use Rattle.allocator_state.specs.State.{counter_after}
 use Rattle.evacuation.specs.declared.Reached.{Reached}
-use Rattle.evacuation.specs.Evacuation.{Sets, Evacuation}
+use Rattle.restricting_sets.specs.declared.VariableSets.{VariableSets}
+use Rattle.evacuation.specs.Evacuation.{Evacuation}
 use Rattle.record_marks.specs.declared.MarkedSafe.{MarkedSafe}
-use Rattle.record_marks.specs.declared.MarkedSafe.TheVariants.{Safe, FromTemporary, Stopped}
+use Rattle.record_marks.specs.declared.MarkedSafe.TheVariants.{Safe, FromTemporary}
 use Rattle.record_marks.specs.declared.Valued.{Valued}
-use Rattle.record_marks.specs.declared.Valued.TheVariants.{Value, Stopped as Halted}
 use Rattle.record_marks.specs.RecordMarks.{in_place, marked_safe, argument_value, subterm_value, remembered_perm}
 use Rattle.reserved_var.specs.ReservedVar.{SafeStep, safe_kept, remembered, safe_made_by, safe_made, Step, instructed_after, value_kept, argument_made, met, subterm_made}
 use Rattle.reserved_var.specs.ReservedVar.{others_out, advanced_by, marked_after, argument_marked}
@@ -30,7 +33,7 @@ use Rattle.valid_stays.proofs.RecordsFit.{record_fits}
 use Rattle.valid_stays.proofs.TablesFit.{counter_after_lem, mapped_at_lem, named-temporary}
 use Rattle.valid_stays.proofs.Steps.{put_valid, argument_valid}
 use Rattle.valid_stays.proofs.OfEvacuation.{EvacuationValid, evacuated_valid}
-use Rattle.valid_stays.proofs.OfRecordMarks.{SafeFits, ValueFits, argument_fits, subterm_fits, safe_fits, remembered-fits}
+use Rattle.valid_stays.proofs.OfRecordMarks.{MadeFits, SafeFits, ValueFits, argument_fits, subterm_fits, safe_fits, remembered-fits}
 
 module _ (k : Kinds) (records mappings queue freed rows sets : List ℕ) where
   abbrev pub ReachedValid : Reached → Type 0
@@ -45,10 +48,10 @@ module _ (k : Kinds) (mappings queue freed rows sets : List ℕ) where
 
 module _ (k : Kinds) {c : Counters} {records mappings queue freed rows sets : List ℕ} (h : Valid k c records mappings queue freed rows sets) where
   instructed_valid :
-      (code : CodeDeque) (refusal : ℕ) (instruction : Instruction)
+      (code : CodeDeque) (refusal : Option Refusal) (instruction : Instruction)
       → ReachedValid k records mappings queue freed rows sets (instructed_after c code refusal instruction)
   unfolding instructed_after
-  instructed_valid code refusal instruction = either (ReachedValid k records mappings queue freed rows sets) (ltb 0 refusal) h h
+  instructed_valid code refusal instruction = either (ReachedValid k records mappings queue freed rows sets) (is_refused refusal) h h
 
   -- the argument counter's next number
   pub advanced_valid :
@@ -56,7 +59,7 @@ module _ (k : Kinds) {c : Counters} {records mappings queue freed rows sets : Li
       → ReachedValid k records mappings queue freed rows sets (advanced_by reached)
   unfolding advanced_by
   advanced_valid reached r =
-      either (ReachedValid k records mappings queue freed rows sets) (ltb 0 reached.refusal) r
+      either (ReachedValid k records mappings queue freed rows sets) (is_refused reached.refusal) r
       (argument_valid k r (counter_after reached.counters.arg_c) (counter_after_lem reached.counters.arg_c))
 
 module _ (k : Kinds) {c : Counters} {records mappings queue freed rows sets : List ℕ} (h : Valid k c records mappings queue freed rows sets)
@@ -64,11 +67,10 @@ module _ (k : Kinds) {c : Counters} {records mappings queue freed rows sets : Li
   -- ---- Made safe
 
   safe_kept_valid :
-      (u : ℕ) → u < k.count → (marked : MarkedSafe) → SafeFits k u marked
-      → SafeValid k mappings queue freed rows sets c (safe_kept records u marked)
-  safe_kept_valid u there (Safe variable) fits = put_valid k h u there variable fits
-  safe_kept_valid u there FromTemporary fits = h
-  safe_kept_valid u there Stopped fits = h
+      (u : ℕ) → u < k.count → (made : Option VariableRecord) → MadeFits k u made
+      → SafeValid k mappings queue freed rows sets c (safe_kept records u made)
+  safe_kept_valid u there (Some variable) fits = put_valid k h u there variable fits
+  safe_kept_valid u there None fits = h
 
   remembered_valid : (n : ℕ) → SafeValid k mappings queue freed rows sets c (remembered records mappings n v)
   unfolding remembered
@@ -80,11 +82,11 @@ module _ (k : Kinds) {c : Counters} {records mappings queue freed rows sets : Li
       (remembered-fits k u (record_at records u) (record_fits k h.recorded u there) v known)))
 
   safe_made_by_valid :
-      (marked : MarkedSafe) (n : ℕ) → SafeFits k v marked
+      (marked : Option MarkedSafe) (n : ℕ) → SafeFits k v marked
       → SafeValid k mappings queue freed rows sets c (safe_made_by marked records mappings n v)
-  safe_made_by_valid (Safe variable) n fits = put_valid k h v known variable fits
-  safe_made_by_valid FromTemporary n fits = remembered_valid n
-  safe_made_by_valid Stopped n fits = h
+  safe_made_by_valid (Some (Safe variable)) n fits = put_valid k h v known variable fits
+  safe_made_by_valid (Some FromTemporary) n fits = remembered_valid n
+  safe_made_by_valid None n fits = h
 
   safe_made_valid :
       (n : ℕ) (level : Level) (context : GenContext) (branch : Branch)
@@ -97,10 +99,10 @@ module _ (k : Kinds) {c : Counters} {records mappings queue freed rows sets : Li
   -- ---- The instruction
 
   value_valid :
-      (valued : Valued) (code : CodeDeque) → ValueFits k v valued
+      (valued : Option Valued) (code : CodeDeque) → ValueFits k v valued
       → StepValid k mappings queue freed rows sets (value_kept c records v valued code)
-  value_valid (Value variable instruction) code fits = instructed_valid k (put_valid k h v known variable fits) code 0 instruction
-  value_valid Halted code fits = h
+  value_valid (Some valued) code fits = instructed_valid k (put_valid k h v known valued.variable fits) code accepted valued.instruction
+  value_valid None code fits = h
 
   argument_made_valid :
       (target : Target) (level : Level) (context : GenContext) (place : RegType) (is_new : Bool) (branch : Branch) (code : CodeDeque)
@@ -114,19 +116,19 @@ module _ (k : Kinds) {c : Counters} {records mappings queue freed rows sets : Li
       (argument_fits k v (record_at records v) (record_fits k h.recorded v known) target place c.arg_c c.in_tail_position branch)))
 
   pub subterm_made_valid :
-      (use_sets use_counts : List ℕ) (target : Target) (context : GenContext) (place : RegType) (is_new : Bool) (branch : Branch) (code : CodeDeque)
+      (s : VariableSets) (target : Target) (context : GenContext) (place : RegType) (is_new : Bool) (branch : Branch) (code : CodeDeque)
       → StepValid k mappings queue freed rows sets
-      (subterm_made c records mappings use_sets use_counts target context v place is_new branch code)
+      (subterm_made c records mappings s target context v place is_new branch code)
   unfolding subterm_made
-  subterm_made_valid use_sets use_counts target context place is_new branch code =
-      either (StepValid k mappings queue freed rows sets) (met records use_sets use_counts context v place is_new)
+  subterm_made_valid s target context place is_new branch code =
+      either (StepValid k mappings queue freed rows sets) (met records s context v place is_new)
       (value_valid (subterm_value (record_at records v) target place branch) code
       (subterm_fits k v (record_at records v) (record_fits k h.recorded v known) target place branch))
       (instructed_valid k (safe_made_valid c.arg_c Deep context branch) code _ _)
 
 -- ---- A variable as an argument
 
-module _ (k : Kinds) (s : Sets) (fit : Uses k s.use_sets s.use_counts) (v : ℕ) (known : v < k.count) where
+module _ (k : Kinds) (s : VariableSets) (fit : Uses k s.use_sets s.use_counts) (v : ℕ) (known : v < k.count) where
   module _ {c : Counters} {records mappings queue freed rows sets : List ℕ} (h : Valid k c records mappings queue freed rows sets) where
     pub others_out_valid : (chunk : ℕ) (code : CodeDeque) → EvacuationValid k queue freed rows sets (others_out c records mappings s v chunk code)
     unfolding others_out
@@ -142,7 +144,7 @@ module _ (k : Kinds) (s : Sets) (fit : Uses k s.use_sets s.use_counts) (v : ℕ)
         → EvacuationValid k queue freed rows sets (marked_after e target level context v place is_new branch)
     unfolding marked_after
     marked_after_valid e h target level context place is_new branch =
-        either (EvacuationValid k queue freed rows sets) (ltb 0 e.reached.refusal) h
+        either (EvacuationValid k queue freed rows sets) (is_refused e.reached.refusal) h
         (let made = argument_made_valid k h v known target level context place is_new branch e.reached.code in
         advanced_valid k made _ made)
 

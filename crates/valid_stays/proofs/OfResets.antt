@@ -1,5 +1,5 @@
 -- A valid state stays valid after the events that only set numbers.
-use Rattle.std.specs.Prelude.{ℕ, suc, ◌+◌, ◌-◌, ◌≤◌, ◌<◌, ◌≡◌, ◌⊎◌, Bool, leb, length}
+use Rattle.std.specs.Prelude.{ℕ, suc, ◌+◌, ◌-◌, ◌≤◌, ◌<◌, ◌≡◌, ◌⊎◌, Bool, leb, length, Option, Some, None}
 use Rattle.std.proofs.Common.{inr}
 use Rattle.std.proofs.Math.Logic.{⊎_elim}
 use Rattle.std.proofs.Math.Bool.{true}
@@ -12,6 +12,7 @@ use Rattle.notation.specs.ChoiceLaws.{by_test}
 use Rattle.sizes.specs.Sizes.{variables, registers, counts, freed_registers}
 use Rattle.bit_set.specs.BitSet.{empty_set, removed}
 use Rattle.bit_set.specs.BitSetLaws.{has-empty}
+use Rattle.variable_records.specs.declared.VariableRecord.{VariableRecord}
 use Rattle.variable_records.specs.declared.VarAlloc.{VarAlloc}
 use Rattle.variable_records.specs.declared.VarAlloc.TheVariants.{Temp, Perm}
 use Rattle.variable_records.specs.Records.{place_of_alloc}
@@ -20,8 +21,6 @@ use Rattle.branch_stack.specs.BranchStack.{current_branch}
 use Rattle.allocator_state.specs.declared.Counters.{Counters}
 use Rattle.allocator_state.specs.State.{counter_after}
 use Rattle.freeing.specs.Freeing.{Release}
-use Rattle.record_marks.specs.declared.MarkedSafe.{MarkedSafe}
-use Rattle.record_marks.specs.declared.MarkedSafe.TheVariants.{Safe, FromTemporary, Stopped}
 use Rattle.record_marks.specs.RecordMarks.{marked_unconditionally}
 use Rattle.resets.specs.Resets.{arg_reset, head_arguments, Heading, heading, has_no_register, awaits_register, argument_placed, arguments_placed, head_begun, head_reset}
 use Rattle.resets.specs.Resets.{Clearing, arg_advanced, contents_reset, whole_reset, free_list_reset, register_freed, Answer, running_incremented, safe_marked_as, safe_marked}
@@ -31,7 +30,7 @@ use Rattle.valid_stays.proofs.RecordsFit.{record_fits}
 use Rattle.valid_stays.proofs.TablesFit.{counter_after_lem, removed_usable, none_mapped}
 use Rattle.valid_stays.proofs.Steps.{put_valid, placed_valid, mapped_valid, with_mappings, argument_valid, search_valid, slot_valid, arity_valid, in_use_valid, used_valid, fewer_valid, more_valid}
 use Rattle.valid_stays.proofs.OfAllocation.{running_valid}
-use Rattle.valid_stays.proofs.OfRecordMarks.{SafeFits, unconditionally_fits}
+use Rattle.valid_stays.proofs.OfRecordMarks.{MadeFits, unconditionally_fits}
 
 module _ (k : Kinds) (queue freed rows sets : List ℕ) where
   abbrev pub HeadingValid : Heading → Type 0
@@ -147,10 +146,9 @@ module _ (k : Kinds) where
           by_test (AnswerValid k c mappings queue freed rows sets) (leb counts running) (λ e. h)
           (λ e. running_valid k v known h (running + 1) (omega (arith, leb-false counts running e)))
 
-      safe_as_valid : (marked : MarkedSafe) → SafeFits k v marked → AnswerValid k c mappings queue freed rows sets (safe_marked_as marked records v)
-      safe_as_valid (Safe variable) fits = put_valid k h v known variable fits
-      safe_as_valid FromTemporary fits = h
-      safe_as_valid Stopped fits = h
+      safe_as_valid : (marked : Option VariableRecord) → MadeFits k v marked → AnswerValid k c mappings queue freed rows sets (safe_marked_as marked records v)
+      safe_as_valid (Some variable) fits = put_valid k h v known variable fits
+      safe_as_valid None fits = h
 
       pub safe_valid : AnswerValid k c mappings queue freed rows sets (safe_marked records rows c.open_branches v)
       unfolding safe_marked

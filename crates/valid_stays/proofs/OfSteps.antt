@@ -1,12 +1,14 @@
 -- A valid state stays valid after each event.
-use Rattle.std.specs.Prelude.{ℕ, ◌+◌, ◌≤◌, ◌<◌, ◌≡◌, true, ◌||◌, eqb, leb}
+use Rattle.std.specs.Prelude.{ℕ, ◌+◌, ◌≤◌, ◌<◌, ◌≡◌, true, ◌||◌, eqb, leb, Option}
 use Rattle.std.proofs.Math.Path.{refl}
 use Rattle.std.proofs.Math.Logic.{inl, inr, ⊎_elim}
 use mathlib.Core.List.{List, [], ◌∷◌}
 use native.Mathlib.Omega.{arith}
 use Rattle.std.proofs.Math.Dec.{ltb}
-use borrow.Author.Tests.{ltb-true, ltb-false, leb-true, leb-false, eqb-true}
+use borrow.Author.Tests.{ltb-true, leb-true, leb-false, eqb-true}
 use Rattle.notation.specs.ChoiceLaws.{both_true, either, by_test}
+use Rattle.refusals.specs.declared.Refusal.{Refusal}
+use Rattle.refusals.specs.Refusals.{is_refused}
 use Rattle.sizes.specs.Sizes.{variables, chunks, counts, is_chunk, is_count}
 use Rattle.sizes.specs.SizesLaws.{register_exactly}
 use Rattle.forms.specs.Forms.{chunk_num}
@@ -15,17 +17,15 @@ use Rattle.variable_records.specs.declared.PermVarAllocation.TheVariants.{Pendin
 use Rattle.variable_records.specs.declared.VarAlloc.TheVariants.{Perm as PermAlloc}
 use Rattle.variable_records.specs.Rows.{temporary}
 use Rattle.allocator_state.specs.declared.Counters.{Counters}
-use Rattle.clause_records.specs.ClauseRecords.{Rows, rows, rows_put, fresh, fresh_temp, use_tables, restricting, perm_recorded, temp_recorded}
-use Rattle.clause_records.specs.ClauseRecords.{Recording, TempRecording}
+use Rattle.clause_records.specs.ClauseRecords.{Rows, rows, rows_put, fresh, fresh_temp, Recording, perm_recorded, temp_recorded}
 use Rattle.events.specs.declared.Entries.TheVariants.{Uses as UseEntries, Arguments, Variables}
 use Rattle.events.specs.declared.Event.{Event}
 use Rattle.events.specs.declared.Event.TheVariants.{Temp, Perm, Sets, Head, Args, Var, Anon, NonVar, Cut, Incr, Free, Safe, Give, Tail, Next, Open, Arm, Take, Close, Reset, Contents, ClearFree}
 use Rattle.events.specs.Events.{is_use, no_variable, all_fit, context_fits, in_size, is_record, refusal_before}
 use Rattle.debray_allocator.specs.declared.State.{State}
-use Rattle.debray_allocator.specs.declared.Acted.{Acted}
 use Rattle.debray_allocator.specs.declared.Answer.{Answer}
-use Rattle.debray_allocator.specs.State.{state_of}
-use Rattle.debray_allocator.specs.DebrayAllocator.{sets_of, with_recording, with_temp_recording, carried_out, seen_after, seen_in, refused_with, acted, unless_refused, stepped}
+use Rattle.debray_allocator.specs.State.{state_of, branch_tables}
+use Rattle.debray_allocator.specs.DebrayAllocator.{with_recording, carried_out, seen_after, seen_in, refused_with, acted, unless_refused, stepped}
 use Rattle.invariants.specs.Lists.{All}
 use Rattle.invariants.specs.OfEvents.{unrefused_in_size}
 use Rattle.valid_stays.specs.Tests.{one_of}
@@ -36,8 +36,8 @@ use Rattle.valid_stays.proofs.OfMarkVar.{var_marked_valid}
 use Rattle.valid_stays.proofs.OfOtherMarks.{anon_marked_valid, non_var_marked_valid, cut_marked_valid}
 use Rattle.valid_stays.proofs.OfResets.{Argument, args_valid, head_valid, next_valid, clear_valid, contents_valid, reset_valid, give_valid, incremented_valid, safe_valid}
 use Rattle.valid_stays.proofs.OfBranchEvents.{open_valid, arm_valid, take_valid, close_valid}
-use Rattle.valid_stays.proofs.OfSets.{populated_restricted}
-use Rattle.valid_stays.proofs.OfClauseRecords.{grown, grown_kind, grown_valid, restricted_more, uses-none, uses_given_lem}
+use Rattle.valid_stays.proofs.OfSets.{populated_uses, populated_restricted}
+use Rattle.valid_stays.proofs.OfClauseRecords.{grown, grown_kind, grown_valid, restricted_more, uses-none, uses_given_lem, uses_given_restricted}
 
 -- with so many variables, of such kinds
 abbrev pub Fitting : State → Type 0
@@ -81,7 +81,7 @@ module _ (s : State) (k : Kinds) (fits : StateFits k s) where
   c = s.counters
 
   abbrev tables : Rows
-  tables = rows s.records s.use_counts s.no_use s.conflict
+  tables = rows s.records s.sets
 
   same : c.records ≡ k.count
   same = fits.whole.counted.records
@@ -89,7 +89,7 @@ module _ (s : State) (k : Kinds) (fits : StateFits k s) where
   with_whole :
       {after : Counters} {records mappings queue freed branch_rows branch_sets : List ℕ}
       → Valid k after records mappings queue freed branch_rows branch_sets
-      → Fitting (state_of after records s.use_sets s.use_counts s.no_use s.conflict mappings freed queue branch_rows branch_sets)
+      → Fitting (state_of after records s.sets mappings freed queue (branch_tables branch_rows branch_sets))
   with_whole valid = (k, record { whole = valid; uses = fits.uses; restricted = fits.restricted })
 
   -- a record more
@@ -140,20 +140,21 @@ module _ (s : State) (k : Kinds) (fits : StateFits k s) where
   temp_recorded-fits :
       (context : GenContext) → chunk_num context ≤ chunks → (occurrences : ℕ) → occurrences ≤ counts → (codes : List ℕ)
       → All (λ code. is_use code ≡ true) codes
-      → FittingAfter (with_temp_recording s (temp_recorded c tables s.use_sets context occurrences codes))
+      → FittingAfter (with_recording s (temp_recorded c tables context occurrences codes))
   unfolding temp_recorded rows_put
   temp_recorded-fits context chunk occurrences small codes all =
       let variable = fresh_temp context occurrences in
-      by_test (λ (r : TempRecording). FittingAfter (with_temp_recording s r)) (leb variables c.records) (λ e. (k, fits))
+      by_test (λ (r : Recording). FittingAfter (with_recording s r)) (leb variables c.records) (λ e. (k, fits))
       (λ e. (let room = leb-false variables c.records e in
       let after = grown c s.records variable room in
       let last : after.count ≡ k.count + 1 = omega (arith, same) in (
         after,
         record {
           whole = grown_valid fits.whole variable room (temp_fits room occurrences small context chunk);
-          uses = uses_given_lem after c.records (omega arith) (use_tables s.use_sets _)
+          uses = uses_given_lem after c.records (omega arith) (rows_put tables c.records variable).sets
               (uses-none k after c.records last same room fits.uses) codes all;
-          restricted = restricted_more k after c.records last same room fits.restricted;
+          restricted = uses_given_restricted after c.records (omega arith) (rows_put tables c.records variable).sets
+              (restricted_more k after c.records last same room fits.restricted) codes all;
         },
       )))
 
@@ -167,10 +168,9 @@ module _ (s : State) (k : Kinds) (fits : StateFits k s) where
     k,
     record {
       whole = fits.whole;
-      uses = fits.uses;
+      uses = populated_uses k c fits.whole.counted s.records s.sets fits.uses;
       restricted =
-          populated_restricted k c fits.whole.counted s.records s.use_sets s.use_counts fits.uses
-          (restricting s.no_use s.conflict) fits.restricted;
+          populated_restricted k c fits.whole.counted s.records s.sets fits.uses fits.restricted;
     },
   )
   carried-fits Head list size = with_whole (head_valid k fits.whole list (known_arguments k c.records same list size))
@@ -178,12 +178,12 @@ module _ (s : State) (k : Kinds) (fits : StateFits k s) where
   carried-fits (Var target level context v) list size =
       let b = both_true (context_fits context) (ltb v c.records) size in
       with_whole
-      (var_marked_valid k (sets_of s) fits.uses (record { target = target; level = level; context = context; variable = v })
+      (var_marked_valid k s.sets fits.uses (record { target = target; level = level; context = context; variable = v })
       (known_variable k c.records same v b.1) (leb-true _ _ b.0) fits.whole)
   carried-fits (Anon target level context) list size =
-      with_whole (anon_marked_valid k (sets_of s) fits.uses fits.whole target level context)
+      with_whole (anon_marked_valid k s.sets fits.uses fits.whole target level context)
   carried-fits (NonVar level context cell) list size =
-      with_whole (non_var_marked_valid k (sets_of s) fits.uses fits.whole level context cell)
+      with_whole (non_var_marked_valid k s.sets fits.uses fits.whole level context cell)
   carried-fits (Cut v chunk) list size =
       with_whole (cut_marked_valid k v (known_variable k c.records same v (both_true (ltb v c.records) (is_chunk chunk) size).0) fits.whole chunk)
   carried-fits (Incr v) list size = with_whole (incremented_valid k fits.whole v (known_variable k c.records same v size))
@@ -209,16 +209,16 @@ seen-fits : (a : Answer) → FittingAfter a → (event : Event) → FittingAfter
 unfolding seen_after
 seen-fits a (k, fits) event =
     either
-    (λ (acted : Acted).
+    (λ (c : Counters).
     Fitting
-    (state_of acted.counters a.state.records a.state.use_sets a.state.use_counts a.state.no_use a.state.conflict
-    a.state.mappings a.state.freed_registers a.state.freed_slots a.state.branch_rows a.state.branch_sets))
+    (state_of c a.state.records a.state.sets a.state.mappings a.state.freed_registers a.state.freed_slots
+    a.state.branches))
     (is_record event) (k, fits)
     (k, record { whole = seen_valid k fits.whole; uses = fits.uses; restricted = fits.restricted })
 
 module _ (s : State) (fits : Fitting s) where
   -- a refused line leaves the state as it was
-  refused-fits : (refusal : ℕ) → FittingAfter (refused_with s refusal)
+  refused-fits : (refusal : Option Refusal) → FittingAfter (refused_with s refusal)
   unfolding refused_with
   refused-fits refusal = fits
 
@@ -226,13 +226,13 @@ module _ (s : State) (fits : Fitting s) where
   unfolding acted
   acted-fits event list =
       let refusal = refusal_before s.counters event list in
-      by_test FittingAfter (ltb 0 refusal) (λ e. refused-fits refusal)
+      by_test FittingAfter (is_refused refusal) (λ e. refused-fits refusal)
       (λ e. seen-fits (carried_out s event list)
-      (carried-fits s fits.0 fits.1 event list (unrefused_in_size s.counters event list (ltb-false 0 refusal e))) event)
+      (carried-fits s fits.0 fits.1 event list (unrefused_in_size s.counters event list e)) event)
 
   unless_refused-fits : (a : Answer) → FittingAfter a → FittingAfter (unless_refused s a)
   unfolding unless_refused
-  unless_refused-fits a h = either FittingAfter (ltb 0 a.refusal) (refused-fits a.refusal) h
+  unless_refused-fits a h = either FittingAfter (is_refused a.refusal) (refused-fits a.refusal) h
 
   pub stepped-fits : (event : Event) (list : List ℕ) → FittingAfter (stepped s event list)
   unfolding stepped

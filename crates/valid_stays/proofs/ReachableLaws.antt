@@ -1,8 +1,8 @@
 -- What a clause can become: rules 4.11, 6.2. Each such state is valid (rule 17.7), and its tables have their lengths.
-use Rattle.std.specs.Prelude.{ℕ, ◌≡◌, true, List, ltb}
-use Rattle.std.proofs.Common.{arith, ltb-false}
+use Rattle.std.specs.Prelude.{ℕ, ◌≡◌, true, List}
 use Rattle.notation.specs.ChoiceLaws.{by_test}
-use Rattle.refusals.specs.Refusals.{accepted}
+use Rattle.refusals.specs.Refusals.{accepted, is_refused}
+use Rattle.refusals.specs.RefusalsLaws.{not_refused}
 use Rattle.events.specs.declared.Event.{Event}
 use Rattle.debray_allocator.specs.declared.State.{State}
 use Rattle.debray_allocator.specs.declared.Answer.{Answer}
@@ -41,7 +41,7 @@ pub reachable_step : {s : State} → Reachable s → (event : Event) (list : Lis
 unfolding stepped unless_refused refused_with
 reachable_step {s} r event list =
     let refusal = (acted s event list).refusal in
-    by_test (λ (a : Answer). (a.refusal ≡ accepted → Reachable a.state) → Reachable a.state) (ltb 0 refusal)
+    by_test (λ (a : Answer). (a.refusal ≡ accepted → Reachable a.state) → Reachable a.state) (is_refused refusal)
     (λ refused taken. r)
-    (λ e taken. taken (omega (arith, ltb-false 0 refusal e)))
+    (λ e taken. taken (not_refused refusal e))
     (after r event list)

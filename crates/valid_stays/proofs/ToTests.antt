@@ -47,14 +47,14 @@ module _ (s : State) (k : Kinds) (fits : StateFits k s) where
   variable_fits_lem : (v : ℕ) → v < s.counters.records → variable_fits s v ≡ true
   variable_fits_lem v h =
       let known : v < k.count = omega (arith, same) in
-      let count = get_or s.use_counts v 0 in
+      let count = get_or s.sets.use_counts v 0 in
       let row = row_at s.records v in
       both_so (row_fits s.counters.records row) _
       (subst (λ (n : ℕ). row_fits n row ≡ true) (sym same) (fits.whole.recorded.row v known))
-      (both_so (uses_fit s.use_sets s.use_counts v) _
+      (both_so (uses_fit s.sets v) _
       (both_so (leb count uses) _ (le-leb _ _ (fits.uses.count v known))
-      (below_so (λ i. is_use (get_or s.use_sets (v * uses + i) 0)) count (fits.uses.each v known)))
-      (both_so (is_register_set (set_at s.no_use v)) (is_register_set (set_at s.conflict v)) (not_so _ (fits.restricted.no_used v known))
+      (below_so (λ i. is_use (get_or s.sets.use_sets (v * uses + i) 0)) count (fits.uses.each v known)))
+      (both_so (is_register_set (set_at s.sets.no_use v)) (is_register_set (set_at s.sets.conflict v)) (not_so _ (fits.restricted.no_used v known))
       (not_so _ (fits.restricted.conflicts v known))))
 
   mapping_fits_lem : (r : ℕ) → r < registers + 1 → mapping_fits s r ≡ true
@@ -109,7 +109,7 @@ module _ (s : State) (k : Kinds) (fits : StateFits k s) where
       (both_so (all_below c.freed_slots (freed_slot_fits s)) (all_below c.open_branches (branch_fits s))
       (below_so (freed_slot_fits s) c.freed_slots freed_slot_fits_lem)
       (below_so (branch_fits s) c.open_branches
-      (λ level h. occurrences_so (occurrences_at s.branch_rows s.branch_sets level) (fits.whole.opened.level level h)))))))
+      (λ level h. occurrences_so (occurrences_at s.branches.rows s.branches.sets level) (fits.whole.opened.level level h)))))))
 
   pub fits_full : Full s
   fits_full =

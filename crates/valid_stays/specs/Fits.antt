@@ -150,19 +150,19 @@ pub record Restricted (k : Kinds) (no_use conflict : List ℕ) : Type 0 where
 -- the tables that events change, and those that only records and `sets` do
 pub record StateFits (k : Kinds) (s : State) : Type 0 where
   pub whole :
-      Valid k s.counters s.records s.mappings s.freed_slots s.freed_registers s.branch_rows s.branch_sets
-  pub uses : Uses k s.use_sets s.use_counts
-  pub restricted : Restricted k s.no_use s.conflict
+      Valid k s.counters s.records s.mappings s.freed_slots s.freed_registers s.branches.rows s.branches.sets
+  pub uses : Uses k s.sets.use_sets s.sets.use_counts
+  pub restricted : Restricted k s.sets.no_use s.sets.conflict
 
 -- the lengths that the types give the tables
 pub record Full (s : State) : Type 0 where
   pub records : length s.records ≡ variables * row_cells
-  pub use_sets : length s.use_sets ≡ variables * uses
-  pub use_counts : length s.use_counts ≡ variables
-  pub no_use : length s.no_use ≡ variables
-  pub conflict : length s.conflict ≡ variables
+  pub use_sets : length s.sets.use_sets ≡ variables * uses
+  pub use_counts : length s.sets.use_counts ≡ variables
+  pub no_use : length s.sets.no_use ≡ variables
+  pub conflict : length s.sets.conflict ≡ variables
   pub mappings : length s.mappings ≡ registers + 1
   pub given : length s.freed_registers ≡ freed_registers
   pub queue : length s.freed_slots ≡ freed_slots * entry_cells
-  pub branch_rows : length s.branch_rows ≡ open_branches * numbers_per_branch
-  pub branch_sets : length s.branch_sets ≡ open_branches * sets_per_branch
+  pub branch_rows : length s.branches.rows ≡ open_branches * numbers_per_branch
+  pub branch_sets : length s.branches.sets ≡ open_branches * sets_per_branch

@@ -31,7 +31,7 @@ use sizes::VARIABLES;
 pub const ROW_CELLS: usize = 16;
 
 pub const TABLE_CELLS: usize = VARIABLES * ROW_CELLS;
-// In the place of a variable's number: no variable.
+// In the place of a variable's number: no variable. A number, since a C host lends the table.
 pub const UNSET: u32 = VARIABLES as u32;
 
 pub type Records = [u32; TABLE_CELLS];
@@ -73,7 +73,7 @@ pub struct VariableRecord {
     pub running_count: u32,
 }
 
-// A safety as numbers: its code, and the branch where it is local.
+// A safety as numbers, which a C host lends: its code, and the branch where it is local.
 #[derive(Clone, Copy)]
 pub struct SafetyRow {
     pub code: u32,
@@ -81,7 +81,7 @@ pub struct SafetyRow {
     pub span: u32,
 }
 
-// A record as numbers.
+// A record as numbers, which a C host lends.
 #[derive(Clone, Copy)]
 pub struct Row {
     pub kind: u32,
@@ -97,44 +97,49 @@ pub struct Row {
 }
 
 // The safety that the numbers stand for.
-pub fn safety_of(row: SafetyRow) -> VarSafetyStatus
-    ensures { result ≡ safety_of row }
-{
-    let code = row.code;
-    match code {
-        0 => VarSafetyStatus::Needed,
-        1 => VarSafetyStatus::LocallyUnneeded(Branch {
-            start: row.start,
-            span: row.span,
-        }),
-        _ => VarSafetyStatus::GloballyUnneeded,
+impl From<SafetyRow> for VarSafetyStatus {
+    ghost from_gives = { λ row safety. safety ≡ safety_of row };
+
+    #[tactic(auto, unfolding(crate::specs::Rows::safety_of))]
+    fn from(row: SafetyRow) -> VarSafetyStatus {
+        match row.code {
+            0 => VarSafetyStatus::Needed,
+            1 => VarSafetyStatus::LocallyUnneeded(Branch {
+                start: row.start,
+                span: row.span,
+            }),
+            _ => VarSafetyStatus::GloballyUnneeded,
+        }
     }
 }
 
 // The numbers that stand for a safety.
-pub fn safety_row(safety: VarSafetyStatus) -> SafetyRow
-    ensures { result ≡ safety_row_of safety }
-{
-    match safety {
-        VarSafetyStatus::Needed => SafetyRow {
-            code: 0,
-            start: 0,
-            span: 0,
-        },
-        VarSafetyStatus::LocallyUnneeded(branch) => SafetyRow {
-            code: 1,
-            start: branch.start,
-            span: branch.span,
-        },
-        VarSafetyStatus::GloballyUnneeded => SafetyRow {
-            code: 2,
-            start: 0,
-            span: 0,
-        },
+impl From<VarSafetyStatus> for SafetyRow {
+    ghost from_gives = { λ safety row. row ≡ safety_row_of safety };
+
+    fn from(safety: VarSafetyStatus) -> SafetyRow {
+        match safety {
+            VarSafetyStatus::Needed => SafetyRow {
+                code: 0,
+                start: 0,
+                span: 0,
+            },
+            VarSafetyStatus::LocallyUnneeded(branch) => SafetyRow {
+                code: 1,
+                start: branch.start,
+                span: branch.span,
+            },
+            VarSafetyStatus::GloballyUnneeded => SafetyRow {
+                code: 2,
+                start: 0,
+                span: 0,
+            },
+        }
     }
 }
 
-// The context that the numbers stand for.
+// The context that the numbers stand for. A function, as is the next: a context is another crate's, and so is a number.
+#[tactic(auto, unfolding(crate::specs::Rows::context_of))]
 pub fn context_of(code: u32, chunk: u32) -> GenContext
     ensures { result ≡ context_of code chunk }
 {
@@ -157,29 +162,29 @@ pub fn context_code(context: GenContext) -> u32
 }
 
 // A permanent variable's allocation, from its numbers.
+#[tactic(auto, unfolding(crate::specs::Rows::perm_of))]
 fn perm_of(row: Row) -> PermVarAllocation
     ensures { result ≡ perm_of row }
 {
-    let pending = row.pending;
-    match pending {
+    match row.pending {
         0 => PermVarAllocation::Done {
-            shallow_safety: safety_of(row.safety),
-            deep_safety: safety_of(row.deep),
+            shallow_safety: VarSafetyStatus::from(row.safety),
+            deep_safety: VarSafetyStatus::from(row.deep),
         },
         _ => PermVarAllocation::Pending,
     }
 }
 
 // The allocation that the numbers stand for.
+#[tactic(auto, unfolding(crate::specs::Rows::allocation_of))]
 fn allocation_of(row: Row) -> VarAlloc
     ensures { result ≡ allocation_of row }
 {
-    let kind = row.kind;
-    match kind {
+    match row.kind {
         0 => VarAlloc::Temp {
             term_loc: context_of(row.context, row.chunk),
             temp_reg: row.place,
-            safety: safety_of(row.safety),
+            safety: VarSafetyStatus::from(row.safety),
             to_perm_var_num: row.to_perm_var_num,
         },
         _ => VarAlloc::Perm(row.place, perm_of(row)),
@@ -187,13 +192,16 @@ fn allocation_of(row: Row) -> VarAlloc
 }
 
 // The record that the numbers stand for.
-pub fn record_of(row: Row) -> VariableRecord
-    ensures { result ≡ record_of row }
-{
-    VariableRecord {
-        allocation: allocation_of(row),
-        num_occurrences: row.num_occurrences,
-        running_count: row.running_count,
+impl From<Row> for VariableRecord {
+    ghost from_gives = { λ row variable. variable ≡ record_of row };
+
+    #[tactic(auto, unfolding(crate::specs::Rows::record_of))]
+    fn from(row: Row) -> VariableRecord {
+        VariableRecord {
+            allocation: allocation_of(row),
+            num_occurrences: row.num_occurrences,
+            running_count: row.running_count,
+        }
     }
 }
 
@@ -212,9 +220,9 @@ fn temp_row(
         chunk: forms::chunk_num(term_loc),
         place: temp_reg,
         pending: 0,
-        safety: safety_row(safety),
-        deep: safety_row(VarSafetyStatus::Needed),
-        to_perm_var_num: to_perm_var_num,
+        safety: SafetyRow::from(safety),
+        deep: SafetyRow::from(VarSafetyStatus::Needed),
+        to_perm_var_num,
         num_occurrences: 0,
         running_count: 0,
     }
@@ -229,9 +237,9 @@ fn perm_row(slot: u32, pending: u32, shallow: VarSafetyStatus, deep: VarSafetySt
         context: 0,
         chunk: 0,
         place: slot,
-        pending: pending,
-        safety: safety_row(shallow),
-        deep: safety_row(deep),
+        pending,
+        safety: SafetyRow::from(shallow),
+        deep: SafetyRow::from(deep),
         to_perm_var_num: UNSET,
         num_occurrences: 0,
         running_count: 0,
@@ -257,22 +265,25 @@ fn allocated_row(slot: u32, allocation: PermVarAllocation) -> Row
 }
 
 // The numbers that stand for a record.
-pub fn row_of(variable: VariableRecord) -> Row
-    ensures { result ≡ row_of variable }
-{
-    let allocation = variable.allocation;
-    let mut row = match allocation {
-        VarAlloc::Temp {
-            term_loc,
-            temp_reg,
-            safety,
-            to_perm_var_num,
-        } => temp_row(term_loc, temp_reg, safety, to_perm_var_num),
-        VarAlloc::Perm(slot, allocation) => allocated_row(slot, allocation),
-    };
-    row.num_occurrences = variable.num_occurrences;
-    row.running_count = variable.running_count;
-    row
+impl From<VariableRecord> for Row {
+    ghost from_gives = { λ variable row. row ≡ row_of variable };
+
+    fn from(variable: VariableRecord) -> Row {
+        let row = match variable.allocation {
+            VarAlloc::Temp {
+                term_loc,
+                temp_reg,
+                safety,
+                to_perm_var_num,
+            } => temp_row(term_loc, temp_reg, safety, to_perm_var_num),
+            VarAlloc::Perm(slot, allocation) => allocated_row(slot, allocation),
+        };
+        Row {
+            num_occurrences: variable.num_occurrences,
+            running_count: variable.running_count,
+            ..row
+        }
+    }
 }
 
 // The numbers of a variable's row. A number of no variable is taken modulo the number of variables.
@@ -324,34 +335,27 @@ fn put_row(records: &mut Records, v: u32, row: Row)
 }
 
 // The record of a variable.
+#[tactic(auto, unfolding(crate::specs::Rows::record_at))]
 pub fn load(records: &Records, v: u32) -> VariableRecord
     ensures { result ≡ record_at records.now v }
 {
-    record_of(row_at(records, v))
+    VariableRecord::from(row_at(records, v))
 }
 
 // Keeps a record as that of a variable.
+#[tactic(auto, unfolding(crate::specs::Rows::record_put))]
 pub fn store(records: &mut Records, v: u32, variable: VariableRecord)
     ensures { records.new ≡ record_put records.old v variable }
 {
-    put_row(records, v, row_of(variable));
+    put_row(records, v, Row::from(variable));
 }
 
 // Whether a variable is a temporary.
+#[tactic(auto, unfolding(crate::specs::Rows::is_temporary, crate::specs::Rows::temporary))]
 pub fn is_temporary(records: &Records, v: u32) -> bool
     ensures { result ≡ is_temporary records.now v }
 {
-    let variable = load(records, v);
-    let allocation = variable.allocation;
-    match allocation {
-        VarAlloc::Temp {
-            term_loc: _,
-            temp_reg: _,
-            safety: _,
-            to_perm_var_num: _,
-        } => true,
-        VarAlloc::Perm(_, _) => false,
-    }
+    matches!(load(records, v).allocation, VarAlloc::Temp { .. })
 }
 
 // The safety of a variable that was guarded in a branch: a branch that starts at 0 counts as the whole clause.
@@ -390,14 +394,8 @@ impl VariableRecord {
     pub fn as_reg_type(self) -> RegType
         ensures { result ≡ place_of self }
     {
-        let allocation = self.allocation;
-        match allocation {
-            VarAlloc::Temp {
-                term_loc: _,
-                temp_reg,
-                safety: _,
-                to_perm_var_num: _,
-            } => RegType::Temp(temp_reg),
+        match self.allocation {
+            VarAlloc::Temp { temp_reg, .. } => RegType::Temp(temp_reg),
             VarAlloc::Perm(slot, _) => RegType::Perm(slot),
         }
     }
@@ -406,31 +404,26 @@ impl VariableRecord {
     pub fn allocated(self, allocation: VarAlloc) -> VariableRecord
         ensures { result ≡ allocated self allocation }
     {
-        VariableRecord {
-            allocation,
-            num_occurrences: self.num_occurrences,
-            running_count: self.running_count,
-        }
+        VariableRecord { allocation, ..self }
     }
 
     // The record with another place.
     pub fn set_register(self, place: u32) -> VariableRecord
         ensures { result ≡ placed_at self place }
     {
-        let allocation = self.allocation;
-        match allocation {
+        self.allocated(match self.allocation {
             VarAlloc::Temp {
                 term_loc,
-                temp_reg: _,
                 safety,
                 to_perm_var_num,
-            } => self.allocated(VarAlloc::Temp {
+                ..
+            } => VarAlloc::Temp {
                 term_loc,
                 temp_reg: place,
                 safety,
                 to_perm_var_num,
-            }),
-            VarAlloc::Perm(_, perm) => self.allocated(VarAlloc::Perm(place, perm)),
-        }
+            },
+            VarAlloc::Perm(_, perm) => VarAlloc::Perm(place, perm),
+        })
     }
 }

@@ -1,4 +1,3 @@
 pub mod Verdict
 pub mod SubtermsLaws
-pub mod PartsLaws
 pub mod VerdictLaws

@@ -1,7 +1,12 @@
 -- The verdict on a check sheet, by what its equalities force.
 use Rattle.std.specs.Prelude.{ℕ, Bool, true, false, ◌&&◌, List, [], ◌∷◌, eqb}
 use Rattle.classes.specs.Classes.{label_of, labelling, all_same}
-use Rattle.symbolic.specs.Symbolic.{Symbols, listed}
+use Rattle.symbolic.specs.declared.Symbols.{Symbols}
+use Rattle.symbolic.specs.Symbolic.{listed}
+
+-- two subterms, a step and a name each, agree: in the step, and their names are forced to be equal
+abbrev pub agree : List ℕ → (ℕ × ℕ) × (ℕ × ℕ) → Bool
+agree labels p = eqb p.0.0 p.1.0 && eqb (label_of labels p.0.1) (label_of labels p.1.1)
 
 -- two subterm lists agree, in length, steps and order, and their names are forced to be equal
 unfoldable pub same_subterms : List ℕ → List (ℕ × ℕ) → List (ℕ × ℕ) → Bool

@@ -9,7 +9,8 @@ use Rattle.classes.specs.ForcesLaws.{labels_hold, labels_force, all_same_forced,
 use Rattle.steps.specs.declared.CheckLine.{CheckLine}
 use Rattle.steps.specs.Order.{fresh_order}
 use Rattle.machine.specs.Right.{Right}
-use Rattle.symbolic.specs.Symbolic.{Symbols, listed, all_accepted}
+use Rattle.symbolic.specs.declared.Symbols.{Symbols}
+use Rattle.symbolic.specs.Symbolic.{listed, all_accepted}
 use Rattle.on_names.specs.OnNames.{symbols_of, named, RightOnNames}
 use Rattle.on_names.proofs.StandsLaws.{sheet_labelled}
 use Rattle.on_names.proofs.NamesLaws.{claims_hold, right_on_names}

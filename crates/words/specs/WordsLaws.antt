@@ -1,9 +1,8 @@
--- Laws of words: the comparison a byte at a time, and that it holds exactly of equal lists.
-use Rattle.std.specs.Prelude.{ℕ, suc, ◌≤◌, ◌<◌, ◌≡◌, refl, List, [], ◌∷◌, true, false, ◌&&◌, ◌↔◌, eqb, length, get_or, drop}
-use Rattle.std.proofs.Common.{ap₂, subst, arith, eq-eqb, ne_eqb, eqb-true}
+-- Laws of words: the comparison is the library's `==` at slices, and it holds exactly of equal lists; and of words of one letter.
+use Rattle.std.specs.Prelude.{ℕ, ◌-◌, ◌<◌, ◌≡◌, refl, List, [], ◌∷◌, true, false, ◌&&◌, ◌↔◌, eqb, length, get_or, take, drop}
+use Rattle.std.specs.Cmp.Lexicographic.{pointwise}
+use Rattle.std.proofs.Common.{ap, ap₂, subst, arith, length-drop, take_all, eq-eqb, ne_eqb, eqb-true}
 use Rattle.std.proofs.lemmas.Bool.{false≢true}
-use Rattle.std.proofs.Math.ListN.{drop_of_length-le}
-use Rattle.std.proofs.Math.Seq.{drop-cons}
 use Rattle.notation.specs.ChoiceLaws.{both_true}
 use Rattle.words.specs.Words.{same}
 
@@ -25,27 +24,38 @@ same_self (c ∷ cs) = simp (eq-eqb c c refl, same_self cs)
 pub same_exactly : (a b : List ℕ) → (same a b ≡ true) ↔ (a ≡ b)
 same_exactly a b = (same_sound a b, λ e. subst (λ (x : List ℕ). same a x ≡ true) e (same_self a))
 
--- lists of two lengths are not the same
-pub same_length : (a b : List ℕ) → (length a ≡ length b → ⊥) → same a b ≡ false
+-- the library compares pair by pair, too
+pub pointwise-same : (a b : List ℕ) → pointwise eqb a b ≡ same a b
 unfolding same
-same_length [] [] h = absurd (h refl)
-same_length [] (d ∷ ds) h = refl
-same_length (c ∷ cs) [] h = refl
-same_length (c ∷ cs) (d ∷ ds) h =
-    let e : same cs ds ≡ false = same_length cs ds (λ l. h (omega arith)) in
-    elim (eqb c d) as (λ t. (t && same cs ds) ≡ false) [ true ↦ e | false ↦ refl ]
+pointwise-same [] [] = refl
+pointwise-same [] (d ∷ ds) = refl
+pointwise-same (c ∷ cs) [] = refl
+pointwise-same (c ∷ cs) (d ∷ ds) = ap (λ t. eqb c d && t) (pointwise-same cs ds)
 
-module _ (a b : List ℕ) (i : ℕ) where
-  pub same_apart : i < length a → i < length b → (get_or a i 0 ≡ get_or b i 0 → ⊥) → same (drop i a) (drop i b) ≡ false
-  unfolding same
-  same_apart ha hb e = rw (drop-cons a i 0 ha, drop-cons b i 0 hb) (simp (ne_eqb _ _ e))
+-- ---- Letters
 
-  pub same_on :
-      i < length a → i < length b → get_or a i 0 ≡ get_or b i 0
-      → same (drop i a) (drop i b) ≡ same (drop (suc i) a) (drop (suc i) b)
-  unfolding same
-  same_on ha hb e = rw (drop-cons a i 0 ha, drop-cons b i 0 hb) (simp (eq-eqb _ _ e))
+-- a field is the word of one letter exactly if that is its only byte
+pub is_letter : (letter : ℕ) (field : List ℕ) → length field ≡ 1 → get_or field 0 0 ≡ letter → same field (letter ∷ []) ≡ true
+unfolding same
+is_letter letter [] h e = absurd (omega arith)
+is_letter letter (c ∷ []) h e = simp (eq-eqb c letter e)
+is_letter letter (c ∷ (d ∷ ds)) h e = absurd (omega arith)
 
-  pub same-done : length a ≤ i → length b ≤ i → same (drop i a) (drop i b) ≡ true
-  unfolding same
-  same-done ha hb = rw (drop_of_length-le a {i = i} ha, drop_of_length-le b {i = i} hb)
+pub not_letter : (letter : ℕ) (field : List ℕ) → (length field ≡ 1 → get_or field 0 0 ≡ letter → ⊥) → same field (letter ∷ []) ≡ false
+unfolding same
+not_letter letter [] other = refl
+not_letter letter (c ∷ []) other = simp (ne_eqb c letter (λ e. other refl e))
+not_letter letter (c ∷ (d ∷ ds)) other = elim (eqb c letter) as (λ t. (t && false) ≡ false) [ true ↦ refl | false ↦ refl ]
+
+-- and it starts with a letter exactly if that is its first byte
+pub starts_with : (letter : ℕ) (field : List ℕ) → 0 < length field → get_or field 0 0 ≡ letter → same (take 1 field) (letter ∷ []) ≡ true
+starts_with letter [] h e = absurd (omega arith)
+starts_with letter (c ∷ cs) h e = is_letter letter (c ∷ []) refl e
+
+pub starts_not : (letter : ℕ) (field : List ℕ) → (0 < length field → get_or field 0 0 ≡ letter → ⊥) → same (take 1 field) (letter ∷ []) ≡ false
+starts_not letter [] other = not_letter letter [] (λ h e. omega arith)
+starts_not letter (c ∷ cs) other = not_letter letter (c ∷ []) (λ h e. other (omega arith) e)
+
+-- all that stands behind the first byte
+pub behind_first : (field : List ℕ) → take (length field - 1) (drop 1 field) ≡ drop 1 field
+behind_first field = take_all (length field - 1) (drop 1 field) (omega (arith, length-drop 1 field))

@@ -2,14 +2,14 @@
 use Rattle.allocation.specs.Allocation.{non_var}
 use Rattle.allocation.proofs.alloc_reg_to_non_var.Goals as goal
 
-pub returns-in-Register : goal.returns-in-Register
+pub returns-in-Some : goal.returns-in-Some
 unfolding non_var
-returns-in-Register c = simp (← c.pop_freed-popped.ensures, c.in-Register.is, c.with_popped.ensures)
+returns-in-Some c = simp (← c.pop_freed-popped.ensures, c.in-Some.is, c.with_popped.ensures)
 
-pub returns-in-Register-searched : goal.returns-in-Register-searched
+pub returns-in-Some-least_outside : goal.returns-in-Some-least_outside
 unfolding non_var
-returns-in-Register-searched c = simp (← c.pop_freed-popped.ensures, c.in-NoRegister.is, ← c.least_outside-searched.ensures, c.in-Register-searched.is, c.with_searched.ensures)
+returns-in-Some-least_outside c = simp (← c.pop_freed-popped.ensures, c.in_default.is, ← c.least_outside.ensures, c.in-Some-least_outside.is, c.with_searched.ensures)
 
-pub returns-in-NoRegister-searched : goal.returns-in-NoRegister-searched
+pub returns-in-None : goal.returns-in-None
 unfolding non_var
-returns-in-NoRegister-searched c = simp (← c.pop_freed-popped.ensures, c.in-NoRegister.is, ← c.least_outside-searched.ensures, c.in-NoRegister-searched.is)
+returns-in-None c = simp (← c.pop_freed-popped.ensures, c.in_default.is, ← c.least_outside.ensures, c.in-None.is)

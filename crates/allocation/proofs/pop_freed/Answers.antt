@@ -1,6 +1,7 @@
--- `allocation::pop_freed`: what is popped of those left is what is popped of all. The measure is how many are left.
--- Assumes nothing.
-use mathlib.Core.Path.{sym, ◌∙◌}
+-- `allocation::pop_freed`: what is popped of those left is what is popped of all. Assumes nothing.
+use mathlib.Core.Path.{◌≡◌, sym, ap, ◌∙◌}
+use native.Mathlib.Omega.{arith}
+use Rattle.allocation.specs.Allocation.{popped}
 use Rattle.allocation.specs.AllocationLaws.{popped-taken, popped_passed, popped-none}
 use Rattle.allocation.proofs.pop_freed.Goals as goal
 
@@ -22,4 +23,5 @@ pub returns : goal.returns
 returns c =
     let a = c.args in
     let l = c.loop-left in
-    sym (l.invariant ∙ popped-none a.counters a.list.now l.left c.loop-left-test.false)
+    let none : l.left ≡ 0 = omega arith in
+    sym (l.invariant ∙ ap (popped a.counters a.list.now) none ∙ popped-none a.counters a.list.now 0 (omega arith))

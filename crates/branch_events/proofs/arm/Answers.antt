@@ -4,4 +4,4 @@ use Rattle.branch_events.proofs.arm.Goals as goal
 
 pub returns : goal.returns
 unfolding armed
-returns c = let e = c.incr_current_branch-advanced.ensures in simp (← e.value, e.rows_after, e.sets_after, c.arm_released.ensures)
+returns c = let e = c.incr_current_branch-advanced.ensures in simp (← e.value, e.rows_after, e.sets_after, c.refusal_of.ensures)

@@ -4,4 +4,4 @@ use Rattle.branch_events.proofs.close.Goals as goal
 
 pub returns : goal.returns
 unfolding closed
-returns c = let e = c.pop_branch-popped.ensures in simp (← e.value, e.records_after, e.rows_after, e.sets_after, c.close_released.ensures)
+returns c = let e = c.pop_branch-popped.ensures in simp (← e.value, e.records_after, e.rows_after, e.sets_after, c.left_open.ensures)

@@ -4,4 +4,4 @@ use Rattle.branch_events.proofs.take.Goals as goal
 
 pub returns : goal.returns
 unfolding stock_taken
-returns c = let e = c.add_branch-taken.ensures in simp (← e.value, e.records_after, e.rows_after, e.sets_after, c.take_released.ensures)
+returns c = let e = c.add_branch-taken.ensures in simp (← e.value, e.records_after, e.rows_after, e.sets_after, c.refusal_of.ensures)

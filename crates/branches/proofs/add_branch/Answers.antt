@@ -1,7 +1,7 @@
 -- `branches::add_branch`: the tests of the code are those of the definitions. Assumes nothing.
 use mathlib.Core.Path.{◌≡◌, refl, sym, ◌∙◌}
 use borrow.Author.Tests.{eq-eqb, ne_eqb}
-use Rattle.branches.specs.declared.Taken.TheVariants.{Took}
+use Rattle.std.specs.Prelude.{Ok}
 use Rattle.branches.specs.Branches.{taken, records_taken, rows_taken, sets_taken}
 use Rattle.branches.specs.BranchesLaws.{records_taken_lem, rows_taken_lem, sets_taken_lem}
 use Rattle.branches.proofs.add_branch.Goals as goal
@@ -23,7 +23,7 @@ returns c =
     let a = c.args in
     let top = c.top_of-top.ensures in
     let held = c.holds_temporary.ensures in
-    let takes : taken a.records.now a.rows.now a.sets.now a.open_branches ≡ Took =
+    let takes : taken a.records.now a.stack.now.rows a.stack.now.sets a.open_branches ≡ Ok tt =
     simp (ne_eqb _ _ c.if-open_branches-eq0.false, ← top, ← held, c.if-holds_temporary.false)
     in
     let safety = c.take_safety-taken.ensures in (record { value = sym takes; records_after = c.pend_members.ensures ∙ records_taken_lem _ _ _ _ _ _ takes top safety; rows_after = c.put_top.ensures.rows_after ∙ rows_taken_lem _ _ _ _ _ _ takes top safety; sets_after = c.put_top.ensures.sets_after ∙ sets_taken_lem _ _ _ _ _ _ takes top safety })

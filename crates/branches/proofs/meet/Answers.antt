@@ -1,5 +1,5 @@
 -- `branches::meet`: from a level on those removed make of the sets so far what all those removed make.
--- The measure is what is left of the levels. Assumes nothing.
+-- Assumes nothing.
 use mathlib.Core.Path.{refl, ap, ◌∙◌}
 use Rattle.bit_set.specs.BitSet.{union}
 use Rattle.branch_stack.specs.declared.BranchOccurrences.{BranchOccurrences}

@@ -1,5 +1,5 @@
 -- `branches::meet`: from a level on those removed make of the sets so far what all those removed make.
--- The measure is what is left of the levels. Assumes nothing.
+-- Assumes nothing.
 use Prim.Native.Nat.{◌-◌}
 use mathlib.Core.Path.{◌≡◌}
 use Rattle.notation.specs.Lists.{numbers_from}
@@ -9,8 +9,5 @@ use Rattle.branches.proofs.meet.Given as goal
 
 abbrev pub invariant-loop-level : goal.invariant-loop-level
 invariant-loop-level l =
-    (each (shallow_joined l.rows l.sets) l.shallow (numbers_from l.level (l.open_branches - l.level)) ≡ each (shallow_joined l.rows l.sets) l.initial.shallow (numbers_from l.left (l.open_branches - l.left)))
-    × (each (deep_joined l.rows l.sets) l.deep (numbers_from l.level (l.open_branches - l.level)) ≡ each (deep_joined l.rows l.sets) l.initial.deep (numbers_from l.left (l.open_branches - l.left)))
-
-abbrev pub decreases-loop-level : goal.decreases-loop-level
-decreases-loop-level l = l.open_branches - l.level
+    (each (shallow_joined l.stack.rows l.stack.sets) l.shallow (numbers_from l.level (l.open_branches - l.level)) ≡ each (shallow_joined l.stack.rows l.stack.sets) l.initial.shallow (numbers_from l.left (l.open_branches - l.left)))
+    × (each (deep_joined l.stack.rows l.stack.sets) l.deep (numbers_from l.level (l.open_branches - l.level)) ≡ each (deep_joined l.stack.rows l.stack.sets) l.initial.deep (numbers_from l.left (l.open_branches - l.left)))

@@ -1,21 +1,12 @@
--- `branches::names_temporary`: from entry i on the list names a temporary if the whole list does.
--- The measure is what is left of the list. Assumes nothing.
-use mathlib.Core.Path.{refl, sym, ◌∙◌}
-use Rattle.branches.specs.BranchesLaws.{temporary_hit, temporary-miss, temporary-end}
+-- `branches::names_temporary`: the test of each entry is that of the definition. Assumes nothing.
+use borrow.Author.Rules.{rules}
+use borrow.Author.Tests.{tests}
+use Rattle.std.proofs.lemmas.Iterator.{YieldsList-from_slice}
+use Rattle.std.proofs.lemmas.Iterator.Search.{any_from_yields_List}
+use Rattle.variable_records.specs.Rows.{is_temporary}
+use Rattle.branches.specs.Branches.{names_temporary}
 use Rattle.branches.proofs.names_temporary.Goals as goal
 
-pub loop-i-init : goal.loop-i-init
-loop-i-init c = refl
-
-pub returns-then-is_temporary : goal.returns-then-is_temporary
-returns-then-is_temporary c =
-    let l = c.loop-i in
-    sym (temporary_hit _ _ l.i c.loop-i-test.true (sym c.is_temporary.ensures ∙ c.if-is_temporary.true)) ∙ l.invariant
-
-pub loop-i-preserved : goal.loop-i-preserved
-loop-i-preserved c =
-    let l = c.loop-i in
-    sym (temporary-miss _ _ l.i c.loop-i-test.true (sym c.is_temporary.ensures ∙ c.if-is_temporary.false)) ∙ l.invariant
-
 pub returns : goal.returns
-returns c = let l = c.loop-i in sym (temporary-end _ _ l.i c.loop-i-test.false) ∙ l.invariant
+unfolding names_temporary
+returns c = any_from_yields_List (is_temporary c.args.records.now) _ _ _ c.any.ensures.ran (YieldsList-from_slice c.args.variables.now cc) (λ x b q k. search (rules, tests))

@@ -1,31 +1,23 @@
--- `branches::pend_members`: from v on the members make of the records so far what all members make.
--- The measure is what is left of the variables. Assumes nothing.
+-- `branches::pend_members`: from v on the members make of the records so far what all members make. Assumes nothing.
 use mathlib.Core.Path.{refl}
-use borrow.Author.Rules.{rules}
+use Rattle.std.specs.Prelude.{◌<◌}
+use Rattle.std.proofs.Common.{arith}
 use Rattle.sizes.specs.Sizes.{variables}
-use Rattle.branches.specs.ListLaws.{from-below, from-none, each_member, each_member_end}
+use Rattle.branches.specs.ListLaws.{each_member, each_member_end}
 use Rattle.branches.specs.Branches.{variable_pended, pended_if_member}
 use Rattle.branches.proofs.pend_members.Goals as goal
 
-pub loop-records-init : goal.loop-records-init
-loop-records-init c = refl
+pub loop-v-init : goal.loop-v-init
+loop-v-init c = refl
 
-pub overflow_add-v : goal.overflow_add-v
-overflow_add-v c =
-    search (rules, from-below _ _ c.has_from.ensures c.loop-records-test.true)
-
-pub loop-records-smaller : goal.loop-records-smaller
-loop-records-smaller c =
-    search (rules, from-below _ _ c.has_from.ensures c.loop-records-test.true)
-
-pub loop-records-preserved : goal.loop-records-preserved
+pub loop-v-preserved : goal.loop-v-preserved
 unfolding pended_if_member
-loop-records-preserved c =
-    let l = c.loop-records in
-    let below = from-below _ _ c.has_from.ensures c.loop-records-test.true in
+loop-v-preserved c =
+    let l = c.loop-v in
+    let below : l.v < variables = omega (arith, c.loop-v-test.true, c.past_last-v-end.ensures.within) in
     each_member variable_pended l.v variables _ _ l.invariant below c.pend_member.ensures
 
 pub returns : goal.returns
 returns c =
-    let l = c.loop-records in
-    each_member_end variable_pended l.v variables _ l.invariant (from-none _ _ c.has_from.ensures c.loop-records-test.false)
+    let l = c.loop-v in
+    each_member_end variable_pended l.v variables _ l.invariant (c.past_last-v-end.ensures.none_from l.v c.loop-v-test.false)

@@ -1,15 +1,9 @@
 -- `branches::pend_members`: from v on the members make of the records so far what all members make.
--- The measure is what is left of the variables. Assumes nothing.
-use Prim.Native.Nat.{◌-◌}
+-- Assumes nothing.
 use mathlib.Core.Path.{◌≡◌}
-use Rattle.sizes.specs.Sizes.{variables}
-use Rattle.notation.specs.Lists.{numbers_from}
-use Rattle.branches.specs.Lists.{members_among, members, each}
+use Rattle.branches.specs.Lists.{members, members_from, each}
 use Rattle.branches.specs.Branches.{variable_pended}
 use Rattle.branches.proofs.pend_members.Given as goal
 
-abbrev pub invariant-loop-records : goal.invariant-loop-records
-invariant-loop-records l = each variable_pended l.records (members_among l.set (numbers_from l.v (variables - l.v))) ≡ each variable_pended l.initial.records (members l.set)
-
-abbrev pub decreases-loop-records : goal.decreases-loop-records
-decreases-loop-records l = variables - l.v
+abbrev pub invariant-loop-v : goal.invariant-loop-v
+invariant-loop-v l = each variable_pended l.records (members_from l.set l.v) ≡ each variable_pended l.initial.records (members l.set)

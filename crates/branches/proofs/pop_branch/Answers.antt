@@ -2,7 +2,7 @@
 use Prim.Native.Nat.{◌-◌}
 use mathlib.Core.Path.{◌≡◌, refl, sym, ◌∙◌}
 use borrow.Author.Tests.{lt-ltb, le-ltb}
-use Rattle.branches.specs.declared.Popped.TheVariants.{Left}
+use Rattle.std.specs.Prelude.{Ok}
 use Rattle.branches.specs.Branches.{popped, records_popped, rows_popped, sets_popped}
 use Rattle.branches.specs.BranchesLaws.{records_popped_lem, rows_popped_lem, sets_popped_lem}
 use Rattle.branches.proofs.pop_branch.Goals as goal
@@ -30,7 +30,7 @@ returns c =
     let open-enough = le-ltb _ _ c.if-open_branches-depth.false in
     let named = c.names_temporary.ensures in
     let past = c.nowhere_recorded.ensures in
-    let closes : popped a.records.now a.rows.now a.sets.now a.open_branches a.depth a.variables.now ≡ Left (a.open_branches - a.depth) =
+    let closes : popped a.records.now a.stack.now.rows a.stack.now.sets a.open_branches a.depth a.variables.now ≡ Ok (a.open_branches - a.depth) =
     simp (open-enough, ← named, c.if-names_temporary.false, ← past, c.if-nowhere_recorded.false)
     in
     let met = c.meet-met.ensures in

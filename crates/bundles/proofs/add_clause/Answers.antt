@@ -10,12 +10,12 @@ both w = record { value = w.0; fronts = w.1 }
 pub overflow_cast-run : goal.overflow_cast-run
 overflow_cast-run c = search (rules, line_small _ c.requires c.run_sheet-run.ensures.value)
 
-pub returns-then-run-gt0 : goal.returns-then-run-gt0
-returns-then-run-gt0 c = both (
-    clause_refused _ c.requires c.run_sheet-run.ensures.value _ _ c.if-run-gt0.true c.run_sheet-run.ensures.out_after c.add_refusal.ensures.value c.add_refusal.ensures.out_after
+pub returns-in-Some : goal.returns-in-Some
+returns-in-Some c = both (
+    clause_refused _ c.requires c.run_sheet-run.ensures.value _ _ c.in-Some.is c.run_sheet-run.ensures.out_after c.add_refusal.ensures.value c.add_refusal.ensures.out_after
     )
 
-pub returns : goal.returns
-returns c = both (
-    clause_printed _ c.requires c.run_sheet-run.ensures.value _ _ c.if-run-gt0.false c.run_sheet-run.ensures.out_after
+pub returns-in-None : goal.returns-in-None
+returns-in-None c = both (
+    clause_printed _ c.requires c.run_sheet-run.ensures.value _ _ c.in-None.is c.run_sheet-run.ensures.out_after
     )

@@ -9,16 +9,16 @@ use Rattle.check_sheets.proofs.run_lines.Goals as goal
 
 pub loop-end-init : goal.loop-end-init
 loop-end-init c =
-    going-first _ c.fresh_order-order.ensures c.fresh_counts-counts.ensures c.fresh_places-places.ensures c.end_of-end.ensures
+    going-first _ c.fresh_order-order.ensures c.begin.ensures c.end_of-end.ensures
 
-pub returns-then-taken-gt0 : goal.returns-then-taken-gt0
-returns-then-taken-gt0 c =
+pub returns-in-Some : goal.returns-in-Some
+returns-in-Some c =
     going-refused
     c.loop-end.invariant
     c.loop-end-test.true
     c.part_before.ensures
-    c.carry_line-taken.ensures
-    c.if-taken-gt0.true
+    c.carry_line-judged.ensures
+    c.in-Some.is
     refl
 
 pub overflow_add-number : goal.overflow_add-number
@@ -35,8 +35,8 @@ loop-end-preserved c =
     c.loop-end.invariant
     c.loop-end-test.true
     c.part_before.ensures
-    c.carry_line-taken.ensures
-    c.if-taken-gt0.false
+    c.carry_line-judged.ensures
+    c.in_default.is
     c.part_after-next.ensures
     c.end_of-end-in-loop-end.ensures
 

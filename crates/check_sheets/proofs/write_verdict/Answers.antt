@@ -10,4 +10,4 @@ pub returns-then-out-lt-VERDICT_BYTES : goal.returns-then-out-lt-VERDICT_BYTES
 returns-then-out-lt-VERDICT_BYTES c = both (word-refused _ _ c.if-out-lt-VERDICT_BYTES.true)
 
 pub returns : goal.returns
-returns c = both (word-written _ _ c.if-out-lt-VERDICT_BYTES.false c.put_verdict-count.ensures)
+returns c = both (word-written _ _ c.if-out-lt-VERDICT_BYTES.false c.put_verdict.ensures)

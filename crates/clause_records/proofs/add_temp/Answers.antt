@@ -10,5 +10,5 @@ returns-then-v c = simp (le-leb _ _ c.if-v.true)
 
 pub returns : goal.returns
 returns c =
-    temp_made _ _ _ _ _ _ c.if-v.false
+    temp_made _ _ _ _ _ c.if-v.false
     c.put_rows.ensures c.give_uses.ensures

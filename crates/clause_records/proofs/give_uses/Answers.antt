@@ -1,19 +1,19 @@
 -- `clause_records::give_uses`: from entry i on the list makes of the use sets so far what the whole list makes.
--- The measure is what is left of the list. Assumes nothing.
+-- Assumes nothing.
 use mathlib.Core.Path.{refl}
 use Rattle.branches.specs.ListLaws.{each_entry, each-end}
 use Rattle.clause_records.specs.ClauseRecords.{uses_given}
 use Rattle.clause_records.specs.ClauseRecordsLaws.{use_added}
 use Rattle.clause_records.proofs.give_uses.Goals as goal
 
-pub loop-i-init : goal.loop-i-init
-loop-i-init c = refl
+pub loop-code-init : goal.loop-code-init
+loop-code-init c = refl
 
-pub loop-i-preserved : goal.loop-i-preserved
-loop-i-preserved c =
-    let l = c.loop-i in
-    each_entry _ _ l.i l.invariant c.loop-i-test.true (use_added c.add_use.ensures)
+pub loop-code-preserved : goal.loop-code-preserved
+loop-code-preserved c =
+    let l = c.loop-code in
+    each_entry _ _ l.code-index l.invariant c.loop-code-test.true (use_added l.sets c.add_use.ensures)
 
 pub returns : goal.returns
 unfolding uses_given
-returns c = let l = c.loop-i in each-end _ _ l.i l.invariant c.loop-i-test.false
+returns c = let l = c.loop-code in each-end _ _ l.code-index l.invariant c.loop-code-test.false

@@ -1,24 +1,33 @@
 -- `evacuation::alloc_in_last_goal_hint`: each way of the code is a case of the definition. Assumes nothing.
-use borrow.Author.Tests.{le-leb, lt-ltb, lt-leb}
+use mathlib.Core.Path.{sym, ◌∙◌}
+use Rattle.shallow_temp_mappings.specs.MappingsLaws.{variable_at-none, variable_at-some}
 use Rattle.evacuation.specs.Evacuation.{hint}
 use Rattle.evacuation.proofs.alloc_in_last_goal_hint.Goals as goal
 
-pub returns-then-v : goal.returns-then-v
+pub returns-in_default : goal.returns-in_default
 unfolding hint
-returns-then-v c = simp (← c.get-v.ensures, le-leb _ _ c.if-v.true)
+returns-in_default c = simp (variable_at-none _ _ (sym c.get.ensures ∙ c.in_default.is))
 
 pub returns-then-not-is_temporary : goal.returns-then-not-is_temporary
 unfolding hint
-returns-then-not-is_temporary c = simp (← c.get-v.ensures, lt-leb _ _ c.if-v.false, ← c.is_temporary.ensures, c.if-not-is_temporary.true)
+returns-then-not-is_temporary c =
+    let mapped = variable_at-some _ _ _ (sym c.get.ensures ∙ c.in-Some.is) in
+    simp (mapped.0, mapped.1, ← c.is_temporary.ensures, c.if-not-is_temporary.true)
 
 pub returns-then-contains_use : goal.returns-then-contains_use
 unfolding hint
-returns-then-contains_use c = simp (← c.get-v.ensures, lt-ltb _ _ c.if-v.false, lt-leb _ _ c.if-v.false, ← c.is_temporary.ensures, c.if-not-is_temporary.false, ← c.last_use.ensures, ← c.contains_use.ensures, c.if-contains_use.true)
+returns-then-contains_use c =
+    let mapped = variable_at-some _ _ _ (sym c.get.ensures ∙ c.in-Some.is) in
+    simp (mapped.0, mapped.1, ← c.is_temporary.ensures, c.if-not-is_temporary.false, ← c.last_use-here.ensures, ← c.contains_use.ensures, c.if-contains_use.true)
 
-pub returns-in-Register : goal.returns-in-Register
+pub returns-in-Some-alloc_with_ca : goal.returns-in-Some-alloc_with_ca
 unfolding hint
-returns-in-Register c = simp (← c.get-v.ensures, lt-ltb _ _ c.if-v.false, lt-leb _ _ c.if-v.false, ← c.is_temporary.ensures, c.if-not-is_temporary.false, ← c.last_use.ensures, ← c.contains_use.ensures, c.if-contains_use.false, ← c.alloc_with_ca-to.ensures, c.in-Register.is)
+returns-in-Some-alloc_with_ca c =
+    let mapped = variable_at-some _ _ _ (sym c.get.ensures ∙ c.in-Some.is) in
+    simp (mapped.0, mapped.1, ← c.is_temporary.ensures, c.if-not-is_temporary.false, ← c.last_use-here.ensures, ← c.contains_use.ensures, c.if-contains_use.false, ← c.alloc_with_ca.ensures, c.in-Some-alloc_with_ca.is)
 
-pub returns-in-NoRegister : goal.returns-in-NoRegister
+pub returns-in-None : goal.returns-in-None
 unfolding hint
-returns-in-NoRegister c = simp (← c.get-v.ensures, lt-ltb _ _ c.if-v.false, lt-leb _ _ c.if-v.false, ← c.is_temporary.ensures, c.if-not-is_temporary.false, ← c.last_use.ensures, ← c.contains_use.ensures, c.if-contains_use.false, ← c.alloc_with_ca-to.ensures, c.in-NoRegister.is)
+returns-in-None c =
+    let mapped = variable_at-some _ _ _ (sym c.get.ensures ∙ c.in-Some.is) in
+    simp (mapped.0, mapped.1, ← c.is_temporary.ensures, c.if-not-is_temporary.false, ← c.last_use-here.ensures, ← c.contains_use.ensures, c.if-contains_use.false, ← c.alloc_with_ca.ensures, c.in-None.is)

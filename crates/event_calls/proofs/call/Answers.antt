@@ -27,14 +27,14 @@ returns-then-line-gt-SHEET_BYTES c = both (
 pub step_bytes-answer-requires : goal.step_bytes-answer-requires
 step_bytes-answer-requires c = c.if-line-gt-SHEET_BYTES.false
 
-pub returns-then-answer-gt0 : goal.returns-then-answer-gt0
-returns-then-answer-gt0 c = both (
+pub returns-in-Some : goal.returns-in-Some
+returns-in-Some c = both (
     call-refused _ _ _
     (sym c.is_valid_state.ensures ∙ c.if-not-is_valid_state.false)
     c.if-line-gt-SHEET_BYTES.false
     c.step_bytes-answer.ensures
-    c.if-answer-gt0.true
-    c.refused-then-answer-gt0.ensures
+    c.in-Some.is
+    c.refused-in-Some.ensures
     )
 
 pub returns-then-out-length : goal.returns-then-out-length
@@ -43,7 +43,7 @@ returns-then-out-length c = both (
     (sym c.is_valid_state.ensures ∙ c.if-not-is_valid_state.false)
     c.if-line-gt-SHEET_BYTES.false
     c.step_bytes-answer.ensures
-    c.if-answer-gt0.false
+    c.in_default.is
     (search rules)
     c.put_answer-length.ensures
     c.if-out-length.true
@@ -56,7 +56,7 @@ returns c = both (
     (sym c.is_valid_state.ensures ∙ c.if-not-is_valid_state.false)
     c.if-line-gt-SHEET_BYTES.false
     c.step_bytes-answer.ensures
-    c.if-answer-gt0.false
+    c.in_default.is
     (search rules)
     c.put_answer-length.ensures
     c.if-out-length.false

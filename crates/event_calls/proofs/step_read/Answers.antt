@@ -11,20 +11,20 @@ use Rattle.event_calls.proofs.step_read.Goals as goal
 
 pub slice_bounds-step-end : goal.slice_bounds-step-end
 slice_bounds-step-end c =
-    let short = count_within _ c.read_line-said.ensures.value _ c.in-Says.is c.requires c.read_line-said.ensures.list_after in
+    let short = count_within _ c.read_line.ensures.value _ c.in-Some.is c.requires c.read_line.ensures.list_after in
     search (rules, short)
 
-pub shape_of-list-in-Malformed : goal.shape_of-list-in-Malformed
-shape_of-list-in-Malformed c = ap length c.read_line-said.ensures.list_after ∙ printed-length _ _ _
+pub shape_of-list-in-None : goal.shape_of-list-in-None
+shape_of-list-in-None c = ap length c.read_line.ensures.list_after ∙ printed-length _ _ _
 
-pub returns-in-Malformed : goal.returns-in-Malformed
-returns-in-Malformed c = line-malformed _ c.read_line-said.ensures.value _ c.in-Malformed.is c.malformed.ensures
+pub returns-in-None : goal.returns-in-None
+returns-in-None c = line-malformed _ c.read_line.ensures.value _ c.in-None.is c.malformed.ensures
 
-pub shape_of-list-in-Says : goal.shape_of-list-in-Says
-shape_of-list-in-Says c = ap length c.read_line-said.ensures.list_after ∙ printed-length _ _ _
+pub shape_of-list-in-Some : goal.shape_of-list-in-Some
+shape_of-list-in-Some c = ap length c.read_line.ensures.list_after ∙ printed-length _ _ _
 
-pub returns-in-Says : goal.returns-in-Says
-returns-in-Says c =
-    let count = c.in-Says.count in
+pub returns-in-Some : goal.returns-in-Some
+returns-in-Some c =
+    let count = c.in-Some.said.entries in
     let all : count - 0 ≡ count = omega arith in
-    line_said _ c.read_line-said.ensures.value _ c.in-Says.is c.requires c.read_line-said.ensures.list_after _ (ap (λ (k : ℕ). take k c.read_line-said.new.list) all) c.step.ensures
+    line_said _ c.read_line.ensures.value _ c.in-Some.is c.requires c.read_line.ensures.list_after _ (ap (λ (k : ℕ). take k c.read_line.new.list) all) c.step.ensures

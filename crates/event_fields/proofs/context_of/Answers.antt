@@ -1,61 +1,68 @@
 -- `event_fields::context_of`: each way of the code is a case of the definition. Assumes nothing.
-use mathlib.Core.Path.{refl}
-use borrow.Author.Tests.{ne_eqb}
-use Rattle.notation.specs.Text.{byte}
+use Rattle.std.specs.Prelude.{◌≡◌, true, false, take, option_map}
+use Rattle.std.proofs.Common.{sym, ◌∙◌, ap, arith, rules}
+use Rattle.notation.specs.Text.{byte, bytes}
+use Rattle.words.specs.Words.{same}
+use Rattle.numbers.specs.Numbers.{number_of}
+use Rattle.forms.specs.declared.GenContext.TheVariants.{Mid, Last}
 use Rattle.event_fields.specs.EventFields.{context_of}
-use Rattle.event_fields.specs.EventFieldsLaws.{same_letter}
+use Rattle.words.specs.WordsLaws.{is_letter, not_letter, starts_with, starts_not, behind_first}
 use Rattle.event_fields.proofs.context_of.Goals as goal
+use Rattle.event_fields.proofs.context_of.Goals.{then-field-lt2+in-109-1, else-field-lt2+in-109-1, then-field-lt2+in-108-1, else-field-lt2+in-108-1}
 
-pub returns-in-104 : goal.returns-in-104
+pub returns-in-h : goal.returns-in-h
 unfolding context_of
-returns-in-104 c = simp (same_letter (byte "h") refl, ← c.only_byte.ensures, c.in-104.is)
+returns-in-h c = simp (is_letter (byte "h") c.args.field.now (omega arith) (omega arith))
 
 pub returns-in-109 : goal.returns-in-109
 unfolding context_of
 returns-in-109 c =
-    simp (
-      same_letter (byte "h") refl,
-      same_letter (byte "m") refl,
-      ← c.only_byte.ensures,
-      ne_eqb _ _ c.in_default.in_default-own.rest.1,
-      ← c.part_before.ensures,
-      ← c.only_byte-letter.ensures,
-      ← c.part_after.ensures,
-      ← c.read-chunk.ensures,
-      c.in-109.is,
-      c.in_mid.ensures,
-    )
+    let s = c.args.field.now in
+    let whole : same s (bytes "h") ≡ false =
+    not_letter (byte "h") s (elim c.in-109-1.branch [ then-field-lt2+in-109-1 w ↦ λ l e. omega arith | else-field-lt2+in-109-1 w ↦ λ l e. omega arith ])
+    in
+    let first : same (take 1 s) (bytes "m") ≡ true =
+    elim c.in-109-1.branch [
+      | then-field-lt2+in-109-1 w ↦ starts_with (byte "m") s (search rules) (omega arith)
+      | else-field-lt2+in-109-1 w ↦ starts_with (byte "m") s (search rules) (omega arith)
+    ]
+    in
+    let made : c.map.result ≡ option_map Mid c.read.result = search rules in
+    made ∙ ap (option_map Mid) (c.read.ensures ∙ ap number_of (behind_first s)) ∙ sym (simp (whole, first))
 
 pub returns-in-108 : goal.returns-in-108
 unfolding context_of
 returns-in-108 c =
-    simp (
-      same_letter (byte "h") refl,
-      same_letter (byte "m") refl,
-      same_letter (byte "l") refl,
-      ← c.only_byte.ensures,
-      ne_eqb _ _ c.in_default.in_default-own.rest.1,
-      ← c.part_before.ensures,
-      ← c.only_byte-letter.ensures,
-      ← c.part_after.ensures,
-      ← c.read-chunk.ensures,
-      c.in-108.is,
-      c.in_last.ensures,
-    )
+    let s = c.args.field.now in
+    let whole : same s (bytes "h") ≡ false =
+    not_letter (byte "h") s (elim c.in-108-1.branch [ then-field-lt2+in-108-1 w ↦ λ l e. omega arith | else-field-lt2+in-108-1 w ↦ λ l e. omega arith ])
+    in
+    let other : same (take 1 s) (bytes "m") ≡ false =
+    starts_not (byte "m") s (elim c.in-108-1.branch [ then-field-lt2+in-108-1 w ↦ λ l e. omega arith | else-field-lt2+in-108-1 w ↦ λ l e. omega arith ])
+    in
+    let first : same (take 1 s) (bytes "l") ≡ true =
+    elim c.in-108-1.branch [
+      | then-field-lt2+in-108-1 w ↦ starts_with (byte "l") s (search rules) (omega arith)
+      | else-field-lt2+in-108-1 w ↦ starts_with (byte "l") s (search rules) (omega arith)
+    ]
+    in
+    let made : c.map-in-108.result ≡ option_map Last c.read-in-108.result = search rules in
+    made ∙ ap (option_map Last) (c.read-in-108.ensures ∙ ap number_of (behind_first s)) ∙ sym (simp (whole, other, first))
 
-pub returns-in_default-letter : goal.returns-in_default-letter
+pub returns-in_default : goal.returns-in_default
 unfolding context_of
-returns-in_default-letter c =
-    simp (
-      same_letter (byte "h") refl,
-      same_letter (byte "m") refl,
-      same_letter (byte "l") refl,
-      ← c.only_byte.ensures,
-      ne_eqb _ _ c.in_default.in_default-own.rest.1,
-      ← c.part_before.ensures,
-      ← c.only_byte-letter.ensures,
-      ← c.part_after.ensures,
-      ← c.read-chunk.ensures,
-      ne_eqb _ _ c.in_default-letter.in_default-letter-own.rest.0.1,
-      ne_eqb _ _ c.in_default-letter.in_default-letter-own.rest.1,
-    )
+returns-in_default c =
+    let s = c.args.field.now in
+    simp (not_letter (byte "h") s (λ l e. omega arith), starts_not (byte "m") s (λ l e. omega arith), starts_not (byte "l") s (λ l e. omega arith))
+
+pub returns-in_default-2 : goal.returns-in_default-2
+unfolding context_of
+returns-in_default-2 c =
+    let s = c.args.field.now in
+    simp (not_letter (byte "h") s (λ l e. omega arith), starts_not (byte "m") s (λ l e. omega arith), starts_not (byte "l") s (λ l e. omega arith))
+
+pub returns-in_default-3 : goal.returns-in_default-3
+unfolding context_of
+returns-in_default-3 c =
+    let s = c.args.field.now in
+    simp (not_letter (byte "h") s (λ l e. omega arith), starts_not (byte "m") s (λ l e. omega arith), starts_not (byte "l") s (λ l e. omega arith))

@@ -1,23 +1,40 @@
--- `event_fields::level_of`: a field is one of the letters exactly if its one byte is. Assumes nothing.
-use mathlib.Core.Path.{refl}
-use borrow.Author.Tests.{ne_eqb}
+-- `event_fields::level_of`: a field is one of the letters exactly if that is its only byte. Assumes nothing.
+use Rattle.std.proofs.Common.{arith}
 use Rattle.notation.specs.Text.{byte}
 use Rattle.event_fields.specs.EventFields.{level_of}
-use Rattle.event_fields.specs.EventFieldsLaws.{same_letter}
+use Rattle.words.specs.WordsLaws.{is_letter, not_letter}
 use Rattle.event_fields.proofs.level_of.Goals as goal
 
-pub returns-in-114 : goal.returns-in-114
+pub returns-in-r : goal.returns-in-r
 unfolding level_of
-returns-in-114 c = simp (same_letter (byte "r") refl, ← c.only_byte.ensures, c.in-114.is)
+returns-in-r c = simp (is_letter (byte "r") c.args.field.now (omega arith) (omega arith))
 
-pub returns-in-115 : goal.returns-in-115
+pub returns-in-s : goal.returns-in-s
 unfolding level_of
-returns-in-115 c = simp (same_letter (byte "r") refl, same_letter (byte "s") refl, ← c.only_byte.ensures, c.in-115.is)
+returns-in-s c =
+    let s = c.args.field.now in
+    simp (not_letter (byte "r") s (λ l e. omega arith), is_letter (byte "s") s (omega arith) (omega arith))
 
-pub returns-in-100 : goal.returns-in-100
+pub returns-in-d : goal.returns-in-d
 unfolding level_of
-returns-in-100 c = simp (same_letter (byte "r") refl, same_letter (byte "s") refl, same_letter (byte "d") refl, ← c.only_byte.ensures, c.in-100.is)
+returns-in-d c =
+    let s = c.args.field.now in
+    simp (not_letter (byte "r") s (λ l e. omega arith), not_letter (byte "s") s (λ l e. omega arith), is_letter (byte "d") s (omega arith) (omega arith))
 
 pub returns-in_default : goal.returns-in_default
 unfolding level_of
-returns-in_default c = simp (same_letter (byte "r") refl, same_letter (byte "s") refl, same_letter (byte "d") refl, ← c.only_byte.ensures, ne_eqb _ _ c.in_default.in_default-own.rest.0.0.1, ne_eqb _ _ c.in_default.in_default-own.rest.0.1, ne_eqb _ _ c.in_default.in_default-own.rest.1)
+returns-in_default c =
+    let s = c.args.field.now in
+    simp (not_letter (byte "r") s (λ l e. omega arith), not_letter (byte "s") s (λ l e. omega arith), not_letter (byte "d") s (λ l e. omega arith))
+
+pub returns-in_default-2 : goal.returns-in_default-2
+unfolding level_of
+returns-in_default-2 c =
+    let s = c.args.field.now in
+    simp (not_letter (byte "r") s (λ l e. omega arith), not_letter (byte "s") s (λ l e. omega arith), not_letter (byte "d") s (λ l e. omega arith))
+
+pub returns-in_default-3 : goal.returns-in_default-3
+unfolding level_of
+returns-in_default-3 c =
+    let s = c.args.field.now in
+    simp (not_letter (byte "r") s (λ l e. omega arith), not_letter (byte "s") s (λ l e. omega arith), not_letter (byte "d") s (λ l e. omega arith))

@@ -16,7 +16,7 @@ pub returns-in-21 : goal.returns-in-21
 unfolding list_line entries_by
 returns-in-21 c =
     let k = c.in-21.is in
-    (record { value = simp (k, c.headed.ensures, c.read_list-arguments.ensures.value); list_after = simp (k, c.read_list-arguments.ensures.list_after) })
+    (record { value = simp (k, c.head_line.ensures.value); list_after = simp (k, c.head_line.ensures.list_after) })
 
 pub returns-in-22 : goal.returns-in-22
 unfolding list_line entries_by

@@ -13,4 +13,4 @@ pub returns : goal.returns
 returns c =
     let rest = c.args.rest.now in
     let ends = c.end_of_field-end.ensures in
-    simp (c.read.ensures, c.field-field.ensures, ends) (sym (one_last rest (omega arith)))
+    simp (c.read.ensures, c.field.ensures, ends) (sym (one_last rest (omega arith)))

@@ -5,27 +5,27 @@ use Rattle.event_lines.proofs.one_said.Goals as goal
 
 pub returns-in-7 : goal.returns-in-7
 unfolding event_among
-returns-in-7 c = simp c.in-7.is
+returns-in-7 c = simp (c.in-7.is, c.alone.ensures)
 
 pub returns-in-8 : goal.returns-in-8
 unfolding event_among
-returns-in-8 c = simp c.in-8.is
+returns-in-8 c = simp (c.in-8.is, c.alone-in-8.ensures)
 
 pub returns-in-9 : goal.returns-in-9
 unfolding event_among
-returns-in-9 c = simp c.in-9.is
+returns-in-9 c = simp (c.in-9.is, c.alone-in-9.ensures)
 
 pub returns-in-10 : goal.returns-in-10
 unfolding event_among
-returns-in-10 c = simp c.in-10.is
+returns-in-10 c = simp (c.in-10.is, c.alone-in-10.ensures)
 
 pub returns-in-11 : goal.returns-in-11
 unfolding event_among
-returns-in-11 c = simp c.in-11.is
+returns-in-11 c = simp (c.in-11.is, c.alone-in-11.ensures)
 
 pub returns-in-12 : goal.returns-in-12
 unfolding event_among
-returns-in-12 c = simp c.in-12.is
+returns-in-12 c = simp (c.in-12.is, c.alone-in-12.ensures)
 
 pub returns-in_default : goal.returns-in_default
 unfolding event_among

@@ -5,15 +5,15 @@ use Rattle.event_lines.proofs.two_said.Goals as goal
 
 pub returns-in-13 : goal.returns-in-13
 unfolding event_among
-returns-in-13 c = simp c.in-13.is
+returns-in-13 c = simp (c.in-13.is, c.alone.ensures)
 
 pub returns-in-14 : goal.returns-in-14
 unfolding event_among
-returns-in-14 c = simp c.in-14.is
+returns-in-14 c = simp (c.in-14.is, c.alone-in-14.ensures)
 
 pub returns-in-15 : goal.returns-in-15
 unfolding event_among
-returns-in-15 c = simp c.in-15.is
+returns-in-15 c = simp (c.in-15.is, c.alone-in-15.ensures)
 
 pub returns-in_default : goal.returns-in_default
 unfolding event_among

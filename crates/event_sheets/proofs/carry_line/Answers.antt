@@ -6,11 +6,11 @@ use Rattle.printing.specs.PrintingLaws.{printed-length}
 use Rattle.event_sheets.specs.RunningLaws.{line-malformed, line_said}
 use Rattle.event_sheets.proofs.carry_line.Goals as goal
 
-pub returns-in-Malformed : goal.returns-in-Malformed
-returns-in-Malformed c = line-malformed _ _ c.read_line-said.ensures.value c.in-Malformed.is c.malformed.ensures
+pub returns-in-None : goal.returns-in-None
+returns-in-None c = line-malformed _ _ c.read_line.ensures.value c.in-None.is c.malformed.ensures
 
-pub shape_of-list-in-Says : goal.shape_of-list-in-Says
-shape_of-list-in-Says c = ap length c.read_line-said.ensures.list_after ∙ printed-length _ _ _
+pub shape_of-list-in-Some : goal.shape_of-list-in-Some
+shape_of-list-in-Some c = ap length c.read_line.ensures.list_after ∙ printed-length _ _ _
 
-pub returns-in-Says : goal.returns-in-Says
-returns-in-Says c = line_said _ _ _ c.read_line-said.ensures.value c.in-Says.is c.read_line-said.ensures.list_after c.entries_of.ensures c.requires c.act.ensures
+pub returns-in-Some : goal.returns-in-Some
+returns-in-Some c = line_said _ _ _ c.read_line.ensures.value c.in-Some.is c.read_line.ensures.list_after c.entries_of.ensures c.requires c.act.ensures

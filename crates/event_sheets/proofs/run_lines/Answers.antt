@@ -1,7 +1,7 @@
 -- `event_sheets::run_lines`: what is left of the sheet, run from here on, makes the run of the whole sheet. The measure is the
 -- length of what is left. Assumes nothing.
 use Prim.Native.Nat.{◌≤◌}
-use mathlib.Core.Path.{refl, ap, ◌∙◌}
+use mathlib.Core.Path.{refl, ap, sym, ◌∙◌}
 use native.Mathlib.Omega.{arith}
 use lib.ListN.{length}
 use lib.Seq.{length-take-le}
@@ -17,7 +17,7 @@ both : {A B : Type 0} → A × B → record { value : A; out_after : B }
 both w = record { value = w.0; out_after = w.1 }
 
 pub loop-end-init : goal.loop-end-init
-loop-end-init c = (going-first _ _ _ c.fresh-fresh.ensures c.end_of-end.ensures, c.requires.sheet_in_bounds, refl)
+loop-end-init c = (going-first _ _ _ c.fresh-state.ensures c.end_of-end.ensures, c.requires.sheet_in_bounds, refl)
 
 pub carry_line-acted-requires : goal.carry_line-acted-requires
 carry_line-acted-requires c =
@@ -25,15 +25,15 @@ carry_line-acted-requires c =
     let short : l.end ≤ length l.rest.now = omega (arith, c.loop-end-test.true) in
     omega (arith, ap length c.part_before.ensures, length-take-le l.end l.rest.now short, l.invariant.1, l.invariant.2)
 
-pub shape_of-list-then-acted-gt0 : goal.shape_of-list-then-acted-gt0
-shape_of-list-then-acted-gt0 c = c.list-1.given ∙ c.loop-end.invariant.2
+pub shape_of-list-then-is_some : goal.shape_of-list-then-is_some
+shape_of-list-then-is_some c = c.list-1.given ∙ c.loop-end.invariant.2
 
-pub shape_of-out-then-acted-gt0 : goal.shape_of-out-then-acted-gt0
-shape_of-out-then-acted-gt0 c = c.loop-end.invariant.0.room
+pub shape_of-out-then-is_some : goal.shape_of-out-then-is_some
+shape_of-out-then-is_some c = c.loop-end.invariant.0.room
 
-pub returns-then-acted-gt0 : goal.returns-then-acted-gt0
-returns-then-acted-gt0 c = both (
-    going-refused c.loop-end.invariant.0 c.loop-end-test.true c.part_before.ensures c.carry_line-acted.ensures c.if-acted-gt0.true
+pub returns-then-is_some : goal.returns-then-is_some
+returns-then-is_some c = both (
+    going-refused c.loop-end.invariant.0 c.loop-end-test.true c.part_before.ensures c.carry_line-acted.ensures (sym c.is_some.ensures ∙ c.if-is_some.true)
     )
 
 pub overflow_add-length : goal.overflow_add-length
@@ -53,7 +53,7 @@ loop-end-smaller c =
 pub loop-end-preserved : goal.loop-end-preserved
 loop-end-preserved c =
     let l = c.loop-end in (
-      going_on_lem l.invariant.0 c.loop-end-test.true c.part_before.ensures c.carry_line-acted.ensures c.if-acted-gt0.false c.add_answer-adding.ensures c.part_after-next.ensures c.end_of-end-in-loop-end.ensures,
+      going_on_lem l.invariant.0 c.loop-end-test.true c.part_before.ensures c.carry_line-acted.ensures (sym c.is_some.ensures ∙ c.if-is_some.false) c.add_answer-adding.ensures c.part_after-next.ensures c.end_of-end-in-loop-end.ensures,
       omega (arith, ap length c.part_after-next.ensures, drop_shorter l.end l.rest.now c.loop-end-test.true, l.invariant.1),
       search rules,
     )

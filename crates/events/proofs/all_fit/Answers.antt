@@ -1,21 +1,21 @@
--- `events::all_fit`: from entry i on all fit if all of the list do. The measure is what is left of the list.
--- Assumes nothing.
-use mathlib.Core.Path.{refl, sym, ◌∙◌}
-use Rattle.events.specs.EventsLaws.{fits_next, fits_not, fits-end}
+-- `events::all_fit`: the test of all entries is made entry by entry, as in the definition. Assumes nothing.
+use Rattle.std.specs.Prelude.{ℕ, ◌≡◌, refl, Bool, ◌&&◌, List, [], ◌∷◌}
+use Rattle.std.specs.List.{list_all}
+use Rattle.std.proofs.Common.{ap, ◌∙◌, rules}
+use borrow.Author.Tests.{tests}
+use Rattle.std.proofs.lemmas.Iterator.{YieldsList-from_slice}
+use Rattle.std.proofs.lemmas.Iterator.Search.{all_from_yields_List}
+use Rattle.events.specs.declared.Entries.{Entries}
+use Rattle.events.specs.Events.{entry_fits, all_fit}
 use Rattle.events.proofs.all_fit.Goals as goal
 
-pub loop-i-init : goal.loop-i-init
-loop-i-init c = refl
-
-pub loop-i-preserved : goal.loop-i-preserved
-loop-i-preserved c =
-    let l = c.loop-i in
-    sym (fits_next _ _ _ l.i c.loop-i-test.true c.entry_fits.ensures c.if-entry_fits.true) ∙ l.invariant
-
-pub returns-else-entry_fits : goal.returns-else-entry_fits
-returns-else-entry_fits c =
-    let l = c.loop-i in
-    sym (fits_not _ _ _ l.i c.loop-i-test.true c.entry_fits.ensures c.if-entry_fits.false) ∙ l.invariant
+listed : (entries : Entries) (records : ℕ) (ns : List ℕ) → list_all (entry_fits entries records) ns ≡ all_fit entries records ns
+unfolding all_fit
+listed entries records [] = refl
+listed entries records (n ∷ ns) = ap (λ (t : Bool). entry_fits entries records n && t) (listed entries records ns)
 
 pub returns : goal.returns
-returns c = let l = c.loop-i in sym (fits-end _ _ _ l.i c.loop-i-test.false) ∙ l.invariant
+returns c =
+    let a = c.args in
+    all_from_yields_List (entry_fits a.entries a.records) _ _ _ c.all.ensures.ran (YieldsList-from_slice a.list.now cc) (λ x b q k. search (rules, tests))
+    ∙ listed a.entries a.records a.list.now

@@ -5,7 +5,7 @@ use Rattle.freeing.proofs.count_or_free.Goals as goal
 
 pub returns-then-variable : goal.returns-then-variable
 unfolding counted_or_freed
-returns-then-variable c = simp (← c.load-variable.ensures, lt-ltb _ _ c.if-variable.true, ← c.counted.ensures, c.store.ensures)
+returns-then-variable c = simp (← c.load-variable.ensures, lt-ltb _ _ c.if-variable.true, c.store.ensures)
 
 pub returns : goal.returns
 unfolding counted_or_freed

@@ -1,6 +1,5 @@
 -- `instructions::put_name`: each number has its word, and none is left for the last arm. Assumes nothing.
 use Rattle.instructions.specs.Codes.{word_of}
-use Rattle.instructions.specs.InstructionsLaws.{none_left}
 use Rattle.instructions.proofs.put_name.Goals as goal
 
 pub returns-in-0 : goal.returns-in-0
@@ -46,6 +45,3 @@ returns-in-9 c = rw c.in-9.is c.put_word-in-9.ensures
 pub returns-in-10 : goal.returns-in-10
 unfolding word_of
 returns-in-10 c = rw c.in-10.is c.put_word-in-10.ensures
-
-pub returns-in_default : goal.returns-in_default
-returns-in_default c = absurd (none_left c.args.number 11 c.in_default.in_default-own.rest c.requires)

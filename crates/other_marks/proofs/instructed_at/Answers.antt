@@ -1,12 +1,11 @@
 -- `other_marks::instructed_at`: each way of the code is a case of the definition. Assumes nothing.
-use borrow.Author.Tests.{le-ltb, lt-ltb}
 use Rattle.other_marks.specs.OtherMarks.{instructed_at}
 use Rattle.other_marks.proofs.instructed_at.Goals as goal
 
-pub returns-then-reached-gt0 : goal.returns-then-reached-gt0
+pub returns-then-is_some : goal.returns-then-is_some
 unfolding instructed_at
-returns-then-reached-gt0 c = simp (lt-ltb _ _ c.if-reached-gt0.true)
+returns-then-is_some c = simp (← c.is_some.ensures, c.if-is_some.true)
 
 pub returns : goal.returns
 unfolding instructed_at
-returns c = simp (le-ltb _ _ c.if-reached-gt0.false, ← c.push_back.ensures, c.going.ensures)
+returns c = simp (← c.is_some.ensures, c.if-is_some.false, ← c.push_back.ensures, c.going.ensures)

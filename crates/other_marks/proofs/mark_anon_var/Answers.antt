@@ -2,10 +2,10 @@
 use Rattle.other_marks.specs.OtherMarks.{anon_marked}
 use Rattle.other_marks.proofs.mark_anon_var.Goals as goal
 
-pub returns-in-NoRegister : goal.returns-in-NoRegister
+pub returns-in-None : goal.returns-in-None
 unfolding anon_marked
-returns-in-NoRegister c = simp (← c.alloc_reg_to_non_var-given.ensures, c.in-NoRegister.is, c.refused.ensures)
+returns-in-None c = simp (← c.alloc_reg_to_non_var-given.ensures, c.in-None.is, c.refused.ensures)
 
-pub returns-in-Register : goal.returns-in-Register
+pub returns-in-Some : goal.returns-in-Some
 unfolding anon_marked
-returns-in-Register c = simp (← c.alloc_reg_to_non_var-given.ensures, c.in-Register.is, c.put_anon.ensures)
+returns-in-Some c = simp (← c.alloc_reg_to_non_var-given.ensures, c.in-Some.is, c.put_anon.ensures)

@@ -1,12 +1,11 @@
 -- `other_marks::marked_at`: each way of the code is a case of the definition. Assumes nothing.
-use borrow.Author.Tests.{le-ltb, lt-ltb}
 use Rattle.other_marks.specs.OtherMarks.{marked_at}
 use Rattle.other_marks.proofs.marked_at.Goals as goal
 
-pub returns-then-reached-gt0 : goal.returns-then-reached-gt0
+pub returns-then-is_some : goal.returns-then-is_some
 unfolding marked_at
-returns-then-reached-gt0 c = simp (lt-ltb _ _ c.if-reached-gt0.true)
+returns-then-is_some c = simp (← c.is_some.ensures, c.if-is_some.true)
 
 pub returns : goal.returns
 unfolding marked_at
-returns c = simp (le-ltb _ _ c.if-reached-gt0.false)
+returns c = simp (← c.is_some.ensures, c.if-is_some.false)

@@ -1,11 +1,7 @@
--- `printing::put_word`: the bytes passed have been put. The measure is what is left of the word. Assumes nothing.
-use Prim.Native.Nat.{◌-◌, ◌≤◌}
-use lib.ListN.{length, take}
+-- `printing::put_word`: the bytes passed have been put. Assumes nothing.
+use lib.ListN.{take}
 use Rattle.printing.specs.Printing.{Put}
 use Rattle.printing.proofs.put_word.Given as goal
 
-abbrev pub invariant-loop-i : goal.invariant-loop-i
-invariant-loop-i l = (l.i ≤ length l.word) × Put l.initial.out l.at (take l.i l.word) l.next l.out
-
-abbrev pub decreases-loop-i : goal.decreases-loop-i
-decreases-loop-i l = length l.word - l.i
+abbrev pub invariant-loop-byte : goal.invariant-loop-byte
+invariant-loop-byte l = Put l.initial.out l.at (take l.byte-index l.word) l.next l.out

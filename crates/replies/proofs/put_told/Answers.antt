@@ -3,13 +3,13 @@ use borrow.Author.Rules.{rules}
 use Rattle.replies.specs.RepliesLaws.{refused_printable, refused-told, written-told}
 use Rattle.replies.proofs.put_told.Goals as goal
 
-pub overflow_cast-line : goal.overflow_cast-line
-overflow_cast-line c =
-    search (rules, refused_printable c.in-Refused.is c.requires)
+pub overflow_cast-refused : goal.overflow_cast-refused
+overflow_cast-refused c =
+    search (rules, refused_printable c.in-Err.is c.requires)
 
-pub returns-in-Written : goal.returns-in-Written
-returns-in-Written c = written-told c.in-Written.is _
+pub returns-in-Ok : goal.returns-in-Ok
+returns-in-Ok c = written-told c.in-Ok.is _
 
-pub returns-in-Refused : goal.returns-in-Refused
-returns-in-Refused c =
-    refused-told c.in-Refused.is c.put_refusal.ensures
+pub returns-in-Err : goal.returns-in-Err
+returns-in-Err c =
+    refused-told c.in-Err.is c.put_refusal.ensures

@@ -1,12 +1,15 @@
 -- `reserved_var::remember`: each way of the code is a case of the definition. Assumes nothing.
-use borrow.Author.Tests.{le-leb, lt-ltb, lt-leb}
+use mathlib.Core.Path.{sym, ◌∙◌}
+use Rattle.shallow_temp_mappings.specs.MappingsLaws.{variable_at-none, variable_at-some}
 use Rattle.reserved_var.specs.ReservedVar.{remembered}
 use Rattle.reserved_var.proofs.remember.Goals as goal
 
-pub returns-then-temporary : goal.returns-then-temporary
+pub returns-in_default : goal.returns-in_default
 unfolding remembered
-returns-then-temporary c = simp (← c.get-temporary.ensures, le-leb _ _ c.if-temporary.true)
+returns-in_default c = simp (variable_at-none _ _ (sym c.get.ensures ∙ c.in_default.is))
 
 pub returns : goal.returns
 unfolding remembered
-returns c = simp (← c.get-temporary.ensures, lt-ltb _ _ c.if-temporary.false, lt-leb _ _ c.if-temporary.false, ← c.load-variable.ensures, ← c.remember_perm.ensures, c.keep_safe.ensures)
+returns c =
+    let mapped = variable_at-some _ _ _ (sym c.get.ensures ∙ c.in-Some.is) in
+    simp (mapped.0, mapped.1, ← c.load-variable.ensures, ← c.remember_perm.ensures, c.keep_safe.ensures)

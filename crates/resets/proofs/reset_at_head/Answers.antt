@@ -1,9 +1,10 @@
--- `resets::reset_at_head`: from argument i on the list makes of what is so far what the whole list makes.
--- The measure is what is left of the arguments. Assumes nothing.
-use Prim.Native.Nat.{◌+◌}
+-- `resets::reset_at_head`: from argument i on the list makes of what is so far what the whole list makes. Assumes nothing.
+use Prim.Native.Nat.{◌+◌, ◌<◌}
 use mathlib.Core.Path.{refl, ◌∙◌}
 use native.Mathlib.Omega.{arith}
-use Rattle.resets.specs.Resets.{head_reset}
+use Rattle.std.proofs.Common.{ap, length-take}
+use Rattle.std.proofs.Math.Seq.{get_or-take}
+use Rattle.resets.specs.Resets.{heading, argument_placed, head_reset}
 use Rattle.resets.specs.ResetsLaws.{head_few, head_within, placed_entry, placed_end}
 use Rattle.resets.proofs.reset_at_head.Goals as goal
 
@@ -12,6 +13,11 @@ overflow_cast-count c = omega (arith, c.argument_count-count.ensures, head_few c
 
 pub overflow_cast-headed : goal.overflow_cast-headed
 overflow_cast-headed c = omega (arith, c.argument_count-count.ensures, head_few c.args.arguments.now)
+
+pub slice_bounds-v-items-end : goal.slice_bounds-v-items-end
+slice_bounds-v-items-end c =
+    let a = c.args in
+    omega (arith, c.argument_count-count.ensures, head_within a.arguments.now, length-take c.argument_count-count.result a.arguments.now)
 
 pub loop-i-init : goal.loop-i-init
 loop-i-init c =
@@ -24,8 +30,10 @@ loop-i-preserved c =
     let a = c.args in
     let l = c.loop-i in
     let e = c.argument_count-count.ensures in
-    let h = c.loop-i-test.true in
-    (l.invariant.0, l.invariant.1, placed_entry a.arguments.now l.i (l.i + 1) _ l.invariant.2 (omega (arith, e, h)) c.place_argument-headed.ensures)
+    let n = c.argument_count-count.result in
+    let h : l.i < n = omega (arith, c.loop-i-test.true, length-take n a.arguments.now) in
+    let entry = get_or-take n a.arguments.now l.i 0 h in
+    (l.invariant.0, l.invariant.1, placed_entry a.arguments.now l.i (l.i + 1) _ l.invariant.2 (omega (arith, e, h)) (c.place_argument-headed.ensures ∙ ap (argument_placed (heading l.records l.mappings l.headed) (l.i + 1)) entry))
 
 pub returns : goal.returns
 unfolding head_reset
@@ -33,5 +41,5 @@ returns c =
     let a = c.args in
     let l = c.loop-i in
     let e = c.argument_count-count.ensures in
-    placed_end a.arguments.now l.i (l.i + 1) l.invariant.2 (omega (arith, e, c.loop-i-test.false))
-    ∙ simp (c.reset_arg-headed.ensures, e)
+    placed_end a.arguments.now l.i (l.i + 1) l.invariant.2 (omega (arith, e, c.loop-i-test.false, length-take c.argument_count-count.result a.arguments.now))
+    ∙ simp (c.reset_arg.ensures, e)

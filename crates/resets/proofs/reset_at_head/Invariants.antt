@@ -1,6 +1,5 @@
--- `resets::reset_at_head`: from argument i on the list makes of what is so far what the whole list makes.
--- The measure is what is left of the arguments. Assumes nothing.
-use Prim.Native.Nat.{◌+◌, ◌-◌, ◌≤◌}
+-- `resets::reset_at_head`: from argument i on the list makes of what is so far what the whole list makes. Assumes nothing.
+use Prim.Native.Nat.{◌+◌, ◌≤◌}
 use mathlib.Core.Path.{◌≡◌}
 use lib.ListN.{length, drop}
 use Rattle.sizes.specs.Sizes.{registers}
@@ -12,6 +11,3 @@ invariant-loop-i l =
     (l.count ≤ registers)
     × (l.count ≤ length l.arguments)
     × (arguments_placed (heading l.records l.mappings l.headed) (l.i + 1) (drop l.i (head_arguments l.arguments)) ≡ arguments_placed (heading l.initial.records l.initial.mappings l.initial.headed) 1 (head_arguments l.arguments))
-
-abbrev pub decreases-loop-i : goal.decreases-loop-i
-decreases-loop-i l = l.count - l.i

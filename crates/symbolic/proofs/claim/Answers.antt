@@ -1,25 +1,16 @@
--- `symbolic::claim`: what is left of the arguments gives, from here on, what all of them give from the start.
--- The measure is how many cells are left. Assumes nothing.
-use mathlib.Core.Path.{refl, sym, ◌∙◌}
-use native.Mathlib.Omega.{arith}
-use Rattle.symbolic.specs.Symbolic.{pairs}
+-- `symbolic::claim`: what is left of the arguments gives, from here on, what all of them give from the start. Assumes nothing.
+use Rattle.std.proofs.Common.{arith, sym, ◌∙◌}
 use Rattle.symbolic.specs.TablesLaws.{claimed_more, claimed-end}
 use Rattle.symbolic.proofs.claim.Goals as goal
 
-pub loop-i-init : goal.loop-i-init
-loop-i-init c = (omega arith, refl)
-
-pub loop-i-preserved : goal.loop-i-preserved
-loop-i-preserved c =
-    let l = c.loop-i in
+pub loop-k-preserved : goal.loop-k-preserved
+loop-k-preserved c =
+    let l = c.loop-k in
     let a = c.args in
-    let reads = c.held-content.ensures in
-    let more = claimed_more a.places.now a.arguments.now l.i (pairs l.claims l.n) (omega arith) reads c.push-n.ensures in
-    (omega arith, more ∙ l.invariant.1)
+    claimed_more a.places.now a.arguments.now l.k-index l.claims c.loop-k-test.true c.held.ensures c.push.ensures ∙ l.invariant
 
 pub returns : goal.returns
 returns c =
-    let l = c.loop-i in
+    let l = c.loop-k in
     let a = c.args in
-    let all = claimed-end a.places.now a.arguments.now l.i (pairs l.claims l.n) c.loop-i-test.false in
-    sym all ∙ l.invariant.1
+    sym (claimed-end a.places.now a.arguments.now l.k-index l.claims (omega arith)) ∙ l.invariant

@@ -1,29 +1,22 @@
--- `temp_var_data::contains_use`: whether the use is among the entries from here on is whether it is among all.
--- The measure is what is left of the use set. Assumes nothing.
-use mathlib.Core.Path.{refl, sym, ap, ◌∙◌}
-use native.Mathlib.Numerals.{add-one}
-use borrow.Author.Tests.{eq-eqb, ne_eqb}
-use Rattle.temp_var_data.specs.Uses.{contains_use}
-use Rattle.temp_var_data.specs.ListLaws.{any_hit, any-miss, any-end}
+-- `temp_var_data::contains_use`: the slice's own test and the definition's compare entry by entry alike. Assumes nothing.
+use Rattle.std.specs.Prelude.{ℕ, ◌≡◌, refl, Bool, ◌||◌, List, [], ◌∷◌, eqb}
+use Rattle.std.specs.List.{list_any}
+use Rattle.std.proofs.Common.{sym, ap, ◌∙◌, eqb-true, eq-eqb}
+use Rattle.std.proofs.Math.Path.{ap₂}
+use Rattle.temp_var_data.specs.TestLaws.{same_tests}
 use Rattle.temp_var_data.specs.Lists.{any}
+use Rattle.temp_var_data.specs.Uses.{contains_use}
 use Rattle.temp_var_data.proofs.contains_use.Goals as goal
 
-pub loop-i-init : goal.loop-i-init
-loop-i-init c = refl
+either_order : (m n : ℕ) → eqb m n ≡ eqb n m
+either_order m n =
+    same_tests (eqb m n) (eqb n m) (λ e. eq-eqb n m (sym (eqb-true m n e))) (λ e. eq-eqb m n (sym (eqb-true n m e)))
 
-pub returns-then-code-use_set : goal.returns-then-code-use_set
-unfolding contains_use
-returns-then-code-use_set c =
-    let l = c.loop-i in
-    sym (any_hit _ _ l.i c.loop-i-test.true (eq-eqb _ _ c.if-code-use_set.true)) ∙ l.invariant ∙ ap (any _) c.uses_of-use_set.ensures
-
-pub loop-i-preserved : goal.loop-i-preserved
-loop-i-preserved c =
-    let l = c.loop-i in
-    rw (add-one l.i) (sym (any-miss _ _ l.i c.loop-i-test.true (ne_eqb _ _ c.if-code-use_set.false)) ∙ l.invariant)
+listed : (code : ℕ) (ns : List ℕ) → list_any (λ entry. eqb entry code) ns ≡ any (λ entry. eqb code entry) ns
+unfolding any
+listed code [] = refl
+listed code (n ∷ ns) = ap₂ (λ (a b : Bool). a || b) (either_order n code) (listed code ns)
 
 pub returns : goal.returns
 unfolding contains_use
-returns c =
-    let l = c.loop-i in
-    sym (any-end _ _ l.i c.loop-i-test.false) ∙ l.invariant ∙ ap (any _) c.uses_of-use_set.ensures
+returns c = c.contains.ensures.value ∙ listed c.args.code c.uses_of.result.now ∙ ap (any _) c.uses_of.ensures

@@ -1,10 +1,8 @@
--- `temp_var_data::used_registers`: the registers of the uses passed have been inserted.
--- The measure is what is left of the use set. Assumes nothing.
-use Prim.Native.Nat.{ℕ, ◌-◌}
+-- `temp_var_data::used_registers`: the registers of the uses passed have been inserted. Assumes nothing.
+use Prim.Native.Nat.{ℕ}
 use mathlib.Core.Path.{◌≡◌}
 use mathlib.Core.Bool.{Bool}
 use lib.Dec.{eqb}
-use lib.ListN.{length}
 use Rattle.temp_var_data.specs.Uses.{register_of}
 use Rattle.temp_var_data.specs.GivenLaws.{given_first}
 use Rattle.temp_var_data.proofs.used_registers.Given as goal
@@ -12,8 +10,5 @@ use Rattle.temp_var_data.proofs.used_registers.Given as goal
 abbrev pub has-register : ℕ → ℕ → Bool
 has-register r code = eqb r (register_of code)
 
-abbrev pub invariant-loop-i : goal.invariant-loop-i
-invariant-loop-i l = l.registers ≡ given_first has-register l.use_set l.i
-
-abbrev pub decreases-loop-i : goal.decreases-loop-i
-decreases-loop-i l = length l.use_set - l.i
+abbrev pub invariant-loop-code : goal.invariant-loop-code
+invariant-loop-code l = l.registers ≡ given_first has-register l.use_set l.code-index

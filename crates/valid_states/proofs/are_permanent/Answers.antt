@@ -1,23 +1,18 @@
--- `valid_states::are_permanent`: the members before v are permanent variables. The measure is what is left of the numbers.
--- Assumes nothing.
-use borrow.Author.Rules.{rules}
-use Rattle.valid_states.specs.ValidStatesLaws.{below_none, below_next, below_fails, below_end}
+-- `valid_states::are_permanent`: the test of the numbers of variables is the definition's. Assumes nothing.
+use Rattle.std.proofs.Common.{refl, ◌∙◌, rules, arith}
+use borrow.Author.Tests.{tests}
+use Rattle.std.proofs.lemmas.Iterator.{YieldsList-from_range}
+use Rattle.std.proofs.lemmas.Iterator.Search.{all_from_yields_List}
+use Rattle.std.specs.Prelude.{ℕ, not, ◌&&◌, ◌||◌, ltb}
+use Rattle.sizes.specs.Sizes.{variables}
+use Rattle.bit_set.specs.BitSet.{has}
+use Rattle.variable_records.specs.Rows.{is_temporary}
+use Rattle.valid_states.proofs.BelowLaws.{range-below}
 use Rattle.valid_states.proofs.are_permanent.Goals as goal
-
-pub loop-v-init : goal.loop-v-init
-loop-v-init c = (below_none _, search rules)
-
-pub loop-v-preserved : goal.loop-v-preserved
-loop-v-preserved c =
-    let l = c.loop-v in
-    (below_next _ l.v c.member_is_permanent.ensures c.if-member_is_permanent.true l.invariant.0, search rules)
-
-pub returns-else-member_is_permanent : goal.returns-else-member_is_permanent
-returns-else-member_is_permanent c =
-    let l = c.loop-v in
-    below_fails _ _ l.v c.loop-v-test.true c.member_is_permanent.ensures c.if-member_is_permanent.false
 
 pub returns : goal.returns
 returns c =
-    let l = c.loop-v in
-    below_end _ _ l.v c.loop-v-test.false l.invariant.1 l.invariant.0
+    let a = c.args in
+    let test = λ (v : ℕ). not (has a.set v) || ltb v a.counters.records && not (is_temporary a.records.now v) in
+    all_from_yields_List test _ _ _ c.all.ensures.ran (YieldsList-from_range 0 variables variables refl (omega arith)) (λ x b q k. search (rules, tests))
+    ∙ range-below test variables

@@ -1,29 +1,16 @@
--- `valid_states::freed_slots_fit`: the entries before i fit. The measure is what is left of the queue.
--- Assumes nothing.
-use mathlib.Core.Path.{ap, ◌∙◌}
-use mathlib.Core.List.{[]}
-use borrow.Author.Rules.{rules}
+-- `valid_states::freed_slots_fit`: the test of the entries that count is the definition's. Assumes nothing.
+use Rattle.std.proofs.Common.{refl, ◌∙◌, rules, arith}
+use borrow.Author.Tests.{tests}
+use Rattle.std.proofs.lemmas.Iterator.{YieldsList-from_range}
+use Rattle.std.proofs.lemmas.Iterator.Search.{all_from_yields_List}
 use Rattle.valid_states.specs.Parts.{of_freed_slots}
-use Rattle.valid_states.specs.ValidStates.{entry_fits}
-use Rattle.valid_states.specs.ValidStatesLaws.{below_none, below_next, below_fails, below_end}
+use Rattle.valid_states.specs.ValidStates.{freed_slot_fits}
+use Rattle.valid_states.proofs.BelowLaws.{range-below}
 use Rattle.valid_states.proofs.freed_slots_fit.Goals as goal
-
-pub loop-i-init : goal.loop-i-init
-loop-i-init c = (below_none _, search rules)
-
-pub loop-i-preserved : goal.loop-i-preserved
-loop-i-preserved c =
-    let a = c.args in
-    let l = c.loop-i in
-    (below_next _ l.i (c.entry_fits.ensures ∙ ap (entry_fits (of_freed_slots a.counters [])) c.entry_at-entry.ensures) c.if-entry_fits.true l.invariant.0, search rules)
-
-pub returns-else-entry_fits : goal.returns-else-entry_fits
-returns-else-entry_fits c =
-    let a = c.args in
-    let l = c.loop-i in
-    below_fails _ _ l.i c.loop-i-test.true (c.entry_fits.ensures ∙ ap (entry_fits (of_freed_slots a.counters [])) c.entry_at-entry.ensures) c.if-entry_fits.false
 
 pub returns : goal.returns
 returns c =
-    let l = c.loop-i in
-    below_end _ _ l.i c.loop-i-test.false l.invariant.1 l.invariant.0
+    let a = c.args in
+    let test = freed_slot_fits (of_freed_slots a.counters a.list.now) in
+    all_from_yields_List test _ _ _ c.all.ensures.ran (YieldsList-from_range 0 a.counters.freed_slots a.counters.freed_slots refl (omega arith)) (λ x b q k. search (rules, tests))
+    ∙ range-below test a.counters.freed_slots

@@ -1,23 +1,16 @@
--- `valid_states::variables_fit`: the variables before v fit. The measure is what is left of the variables.
--- Assumes nothing.
-use borrow.Author.Rules.{rules}
-use Rattle.valid_states.specs.ValidStatesLaws.{below_none, below_next, below_fails, below_end}
+-- `valid_states::variables_fit`: the test of the variables is the definition's. Assumes nothing.
+use Rattle.std.proofs.Common.{refl, ◌∙◌, rules, arith}
+use borrow.Author.Tests.{tests}
+use Rattle.std.proofs.lemmas.Iterator.{YieldsList-from_range}
+use Rattle.std.proofs.lemmas.Iterator.Search.{all_from_yields_List}
+use Rattle.valid_states.specs.Parts.{of_sets}
+use Rattle.valid_states.specs.ValidStates.{variable_fits}
+use Rattle.valid_states.proofs.BelowLaws.{range-below}
 use Rattle.valid_states.proofs.variables_fit.Goals as goal
-
-pub loop-v-init : goal.loop-v-init
-loop-v-init c = (below_none _, search rules)
-
-pub loop-v-preserved : goal.loop-v-preserved
-loop-v-preserved c =
-    let l = c.loop-v in
-    (below_next _ l.v c.variable_fits.ensures c.if-variable_fits.true l.invariant.0, search rules)
-
-pub returns-else-variable_fits : goal.returns-else-variable_fits
-returns-else-variable_fits c =
-    let l = c.loop-v in
-    below_fails _ _ l.v c.loop-v-test.true c.variable_fits.ensures c.if-variable_fits.false
 
 pub returns : goal.returns
 returns c =
-    let l = c.loop-v in
-    below_end _ _ l.v c.loop-v-test.false l.invariant.1 l.invariant.0
+    let a = c.args in
+    let test = variable_fits (of_sets a.counters a.records.now a.sets.now) in
+    all_from_yields_List test _ _ _ c.all.ensures.ran (YieldsList-from_range 0 a.counters.records a.counters.records refl (omega arith)) (λ x b q k. search (rules, tests))
+    ∙ range-below test a.counters.records

@@ -1,5 +1,0 @@
--- `event_lines::with_three`: each way of the code is a case of the definition. Assumes nothing.
-use Rattle.event_lines.proofs.with_three.Goals as goal
-
-pub returns-in-Of : goal.returns-in-Of
-returns-in-Of c = simp c.in-Of.is

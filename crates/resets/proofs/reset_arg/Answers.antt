@@ -1,5 +1,0 @@
--- `resets::reset_arg`: the code is the definition. Assumes nothing.
-use Rattle.resets.proofs.reset_arg.Goals as goal
-
-pub returns : goal.returns
-returns c = simp c.counter_after.ensures
