@@ -46,7 +46,7 @@ fn main(rt: HostRuntime) {
         let mut byte = [0u8; 1];
         further = inputs::answer_of(&from.read(&mut byte));
     }
-    if inputs::is_whole(came, further) {
+    if inputs::is_whole(came, further.number()) {
         answer(&rt, split::part_before(&input, came));
     } else {
         let _ = rt.eprintln("bundle_sheet: no answer, since the bundle did not come whole");

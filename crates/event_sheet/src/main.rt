@@ -45,7 +45,7 @@ fn main(rt: HostRuntime) {
         let mut byte = [0u8; 1];
         further = inputs::answer_of(&from.read(&mut byte));
     }
-    if inputs::is_whole(came, further) {
+    if inputs::is_whole(came, further.number()) {
         answer(&rt, split::part_before(&input, came));
     } else {
         let _ = rt.eprintln("event_sheet: no answer, since the sheet did not come whole");
