@@ -60,7 +60,7 @@ pub fn alloc_in_last_goal_hint(
     ensures { result ≡ hint counters records.now mappings.now sets.now chunk }
 {
     let k = counters.arg_c;
-    let Some(v) = shallow_temp_mappings::get(mappings, k) else {
+    let Some(v) = shallow_temp_mappings::variable_at(mappings, k) else {
         return Hint::Stays;
     };
     if !variable_records::is_temporary(records, v) {

@@ -61,7 +61,7 @@ fn keep_safe(records: &mut Records, v: u32, safe: Option<VariableRecord>) -> Opt
 fn remember(records: &mut Records, mappings: &Mappings, k: u32, v: u32) -> Option<Refusal>
     ensures { safe_step records.new result ≡ remembered records.old mappings.now k v }
 {
-    let Some(temporary) = shallow_temp_mappings::get(mappings, k) else {
+    let Some(temporary) = shallow_temp_mappings::variable_at(mappings, k) else {
         return None;
     };
     let variable = variable_records::load(records, temporary);
@@ -280,7 +280,7 @@ fn empty_argument(
 ) -> Reached
     ensures { evacuation records.new mappings.new result ≡ others_out counters records.old mappings.old sets.now v chunk code }
 {
-    let Some(mapped) = shallow_temp_mappings::get(mappings, counters.arg_c) else {
+    let Some(mapped) = shallow_temp_mappings::variable_at(mappings, counters.arg_c) else {
         return evacuation::going(counters, code);
     };
     if mapped == v {

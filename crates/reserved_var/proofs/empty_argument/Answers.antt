@@ -7,16 +7,16 @@ use Rattle.reserved_var.proofs.empty_argument.Goals as goal
 
 pub returns-in_default : goal.returns-in_default
 unfolding others_out
-returns-in_default c = simp (variable_at-none _ _ (sym c.get.ensures ∙ c.in_default.is), c.going.ensures)
+returns-in_default c = simp (variable_at-none _ _ (sym c.variable_at.ensures ∙ c.in_default.is), c.going.ensures)
 
 pub returns-then-mapped-v : goal.returns-then-mapped-v
 unfolding others_out
 returns-then-mapped-v c =
-    let mapped = variable_at-some _ _ _ (sym c.get.ensures ∙ c.in-Some.is) in
+    let mapped = variable_at-some _ _ _ (sym c.variable_at.ensures ∙ c.in-Some.is) in
     simp (mapped.0, mapped.1, eq-eqb _ _ c.if-mapped-v.true, c.going-then-mapped-v.ensures)
 
 pub returns : goal.returns
 unfolding others_out
 returns c =
-    let mapped = variable_at-some _ _ _ (sym c.get.ensures ∙ c.in-Some.is) in
+    let mapped = variable_at-some _ _ _ (sym c.variable_at.ensures ∙ c.in-Some.is) in
     simp (mapped.0, mapped.1, ne_eqb _ _ c.if-mapped-v.false, c.evacuate_arg.ensures)
