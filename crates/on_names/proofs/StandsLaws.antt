@@ -1,9 +1,9 @@
 -- The run on names stands for the machine's run and for what is wanted: under every choice each holds the values of the names.
-use Rattle.std.specs.Prelude.{ℕ, suc, ◌+◌, ◌*◌, ◌≤◌, ◌<◌, ◌≡◌, refl, true, false, not, get_or, Option, None}
+use Rattle.std.specs.Prelude.{ℕ, suc, ◌+◌, ◌*◌, ◌≤◌, ◌<◌, ◌≡◌, refl, true, not, get_or, Option, None}
 use Rattle.std.proofs.Common.{sym, ap, subst, ◌∙◌, arith}
 use mathlib.Core.List.{List, [], ◌∷◌, map}
 use Rattle.std.proofs.Math.ListN.{length-replicate, get_or-replicate}
-use Rattle.std.proofs.lemmas.Bool.{false≢true, not-true}
+use Rattle.std.proofs.lemmas.Bool.{not-true}
 use Rattle.notation.specs.ChoiceLaws.{both_true}
 use Rattle.notation.specs.Lists.{numbers_from}
 use Rattle.notation.specs.ListLaws.{length_numbers, get_or_numbers}
@@ -20,7 +20,7 @@ use Rattle.steps.specs.declared.CheckLine.{CheckLine}
 use Rattle.steps.specs.declared.CheckLine.TheVariants.{Begins, Does}
 use Rattle.steps.specs.declared.Order.{Order}
 use Rattle.steps.specs.Steps.{is_get_value_or_unify, fits}
-use Rattle.steps.specs.Order.{kind_of, is_past_head, fresh_order, begun, done, following, judged}
+use Rattle.steps.specs.Order.{head_step, kind_of, fresh_order, begun, done, following, judged}
 use Rattle.steps.specs.OrderLaws.{line-fits, accepted_order, begins_few, does_few, head_goes_on, demands_in_head, argument_and_variable_lem}
 use Rattle.classes.specs.Classes.{in_names}
 use Rattle.machine.specs.Machine.{Contents, Machine, begins, does, stepped, run_from, at_entry, run}
@@ -48,7 +48,7 @@ pub record Standing (ρ : ℕ → ℕ) (order : Order) (s : Symbols) (m : Machin
   pub short : order.instructions ≤ instructions
   pub acts : Acts ρ order.steps (most_done order) (most_done order) s.doing m
   -- equalities are demanded in the head alone, where no call has left anything
-  pub labelled : is_past_head order.kind ≡ false → AllLabelled s.doing.places
+  pub labelled : order.kind ≤ head_step → AllLabelled s.doing.places
   pub asks : Asks ρ order.steps s.wanting w
   pub reads : Reads ρ order.steps s.wanting.goal s.claims m.goal w.goal m.read w.arguments
 
@@ -90,13 +90,13 @@ module _
         }
 
     labelled_begun :
-        (step : Step) → (judged order (Begins step)).refusal ≡ accepted → is_past_head (kind_of step) ≡ false
+        (step : Step) → (judged order (Begins step)).refusal ≡ accepted → kind_of step ≤ head_step
         → AllLabelled (spoilt_at (order.steps + 1) s.doing.places step)
     labelled_begun (Head k v) good e = h.labelled (head_goes_on order (Head k v) good refl)
     labelled_begun (HeadDeep v) good e = h.labelled (head_goes_on order (HeadDeep v) good refl)
-    labelled_begun (Goal k v) good e = absurd (false≢true (sym e))
-    labelled_begun (GoalDeep v) good e = absurd (false≢true (sym e))
-    labelled_begun Call good e = absurd (false≢true (sym e))
+    labelled_begun (Goal k v) good e = absurd (omega arith)
+    labelled_begun (GoalDeep v) good e = absurd (omega arith)
+    labelled_begun Call good e = absurd (omega arith)
 
     module _ (bounded : order.steps + 1 ≤ steps) where
       leaves : (r : ℕ) → is_register r ≡ true → left_by (suc m.steps) r ≡ ρ (call_name (order.steps + 1) r)
@@ -186,7 +186,7 @@ module _
         let fit = line-fits order (Does instruction) good in
         let room : most_done order < pair_cells = omega (arith, h.few) in
         let in_head : is_get_value_or_unify instruction ≡ true → AllLabelled s.doing.places =
-        λ demands. h.labelled (ap is_past_head (demands_in_head order instruction good demands)) in
+        λ demands. h.labelled (omega (arith, demands_in_head order instruction good demands)) in
         let acts-now = does_stands ρ order.steps (most_done order) s.doing m h.acts h.few room instruction fit in_head in
         rw own-number
         record {

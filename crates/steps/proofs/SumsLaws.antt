@@ -1,7 +1,7 @@
 -- Laws of an order that sums up the lines so far: it says of the next line what they say of it.
 use Rattle.std.specs.Prelude.{ℕ, ◌≡◌, true, false, ◌&&◌, ◌||◌, List, [], ◌∷◌, leb}
 use Rattle.std.proofs.Math.Path.{refl, ap, ap₂, sym}
-use Rattle.std.proofs.Common.{◌∙◌, arith}
+use Rattle.std.proofs.Common.{◌∙◌, arith, leb-false, ne_eqb}
 use Rattle.std.proofs.Math.Dec.{eqb}
 use Rattle.std.specs.Prelude.{if◌then◌else◌}
 use Rattle.refusals.specs.Refusals.{accepted, refused_order}
@@ -13,11 +13,9 @@ use Rattle.steps.specs.declared.Step.{Step}
 use Rattle.steps.specs.declared.Step.TheVariants.{Head, HeadDeep, Goal, GoalDeep, Call}
 use Rattle.steps.specs.declared.CheckLine.{CheckLine}
 use Rattle.steps.specs.declared.CheckLine.TheVariants.{Begins, Does}
-use Rattle.steps.specs.declared.Kind.{Kind}
-use Rattle.steps.specs.declared.Kind.TheVariants.{NoStep, HeadStep, GoalStep, CallStep}
 use Rattle.steps.specs.declared.Order.{Order}
 use Rattle.steps.specs.Steps.{steps_of, instructions_of, takes_number, past_head, in_goal, misplaced, number_taken, is_out_of_order, is_uncalled, fits, is_full, first_of, refusal_of}
-use Rattle.steps.specs.Order.{kind_of, is_past_head, is_in_goal, misplaced_under, breaks_order, overfills, refusal_by, fresh_order, goal_after, following, judged, refusal_at_end}
+use Rattle.steps.specs.Order.{goal_step, kind_of, misplaced_under, breaks_order, overfills, refusal_by, fresh_order, goal_after, following, judged, refusal_at_end}
 use Rattle.steps.specs.OrderLaws.{none_refuses, judged_refusal, accepted_order, argument_and_variable_lem}
 use Rattle.steps.specs.Sums.{last_kind, Sums}
 
@@ -59,12 +57,6 @@ module _ (order : Order) (earlier : List CheckLine) (s : Sums order earlier) whe
 
 -- ---- One line more
 
-in_head : (kind : Kind) → is_past_head kind ≡ false → false ≡ is_in_goal kind
-in_head NoStep h = refl
-in_head HeadStep h = refl
-in_head GoalStep h = sym h
-in_head CallStep h = refl
-
 pub sums_none : Sums fresh_order []
 unfolding steps_of instructions_of number_taken in_goal past_head is_uncalled
 sums_none =
@@ -74,7 +66,8 @@ module _ (order : Order) (earlier : List CheckLine) (s : Sums order earlier) whe
   -- a head step is accepted before all goal steps and calls alone
   not_uncalled : past_head (steps_of earlier) ≡ false → false ≡ is_uncalled (steps_of earlier)
   not_uncalled h =
-      in_head order.kind (s.past ∙ h) ∙ s.uncalled
+      let early = leb-false goal_step order.kind (s.past ∙ h) in
+      sym (ne_eqb order.kind goal_step (omega arith)) ∙ s.uncalled
 
   goal_after_lem :
       (step : Step) → fits (Begins step) ≡ true → (k : ℕ)
@@ -88,7 +81,7 @@ module _ (order : Order) (earlier : List CheckLine) (s : Sums order earlier) whe
   goal_after_lem Call in_size k = has-empty k
 
   past_after :
-      (step : Step) → is_out_of_order earlier (Begins step) ≡ false → is_past_head (kind_of step) ≡ past_head (steps_of (Begins step ∷ earlier))
+      (step : Step) → is_out_of_order earlier (Begins step) ≡ false → leb goal_step (kind_of step) ≡ past_head (steps_of (Begins step ∷ earlier))
   unfolding steps_of past_head
   past_after (Head k v) in_order = sym in_order
   past_after (HeadDeep v) in_order = sym in_order
@@ -97,7 +90,7 @@ module _ (order : Order) (earlier : List CheckLine) (s : Sums order earlier) whe
   past_after Call in_order = refl
 
   uncalled_after :
-      (step : Step) → is_out_of_order earlier (Begins step) ≡ false → is_in_goal (kind_of step) ≡ is_uncalled (steps_of (Begins step ∷ earlier))
+      (step : Step) → is_out_of_order earlier (Begins step) ≡ false → eqb (kind_of step) goal_step ≡ is_uncalled (steps_of (Begins step ∷ earlier))
   unfolding steps_of is_uncalled
   uncalled_after (Head k v) in_order = not_uncalled in_order
   uncalled_after (HeadDeep v) in_order = not_uncalled in_order

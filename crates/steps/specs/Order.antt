@@ -1,5 +1,5 @@
 -- What is kept of the lines so far, and what it says of the next one: an order, which sums them up (SumsLaws).
-use Rattle.std.specs.Prelude.{ℕ, ◌+◌, Bool, true, false, ◌&&◌, ◌||◌, Option, leb}
+use Rattle.std.specs.Prelude.{ℕ, ◌+◌, Bool, true, false, ◌&&◌, ◌||◌, Option, eqb, leb}
 use Rattle.std.specs.Prelude.{if◌then◌else◌}
 use Rattle.refusals.specs.declared.Refusal.{Refusal}
 use Rattle.refusals.specs.Refusals.{accepted, refused_order, is_refused}
@@ -10,48 +10,44 @@ use Rattle.steps.specs.declared.Step.{Step}
 use Rattle.steps.specs.declared.Step.TheVariants.{Head, HeadDeep, Goal, GoalDeep, Call}
 use Rattle.steps.specs.declared.CheckLine.{CheckLine}
 use Rattle.steps.specs.declared.CheckLine.TheVariants.{Begins, Does}
-use Rattle.steps.specs.declared.Kind.{Kind}
-use Rattle.steps.specs.declared.Kind.TheVariants.{NoStep, HeadStep, GoalStep, CallStep}
 use Rattle.steps.specs.declared.Order.{Order}
 use Rattle.steps.specs.declared.Judged.{Judged}
 use Rattle.steps.specs.Steps.{is_put_or_set, is_get_value_or_unify, takes_number, fits, first_of}
 
 -- ---- The kinds of the last step
 
-abbrev pub kind_of : Step → Kind
-kind_of (Head k v) = HeadStep
-kind_of (HeadDeep v) = HeadStep
-kind_of (Goal k v) = GoalStep
-kind_of (GoalDeep v) = GoalStep
-kind_of Call = CallStep
+abbrev pub no_step : ℕ
+no_step = 0
 
-abbrev pub is_past_head : Kind → Bool
-is_past_head NoStep = false
-is_past_head HeadStep = false
-is_past_head GoalStep = true
-is_past_head CallStep = true
+abbrev pub head_step : ℕ
+head_step = 1
 
-abbrev pub is_in_goal : Kind → Bool
-is_in_goal NoStep = false
-is_in_goal HeadStep = false
-is_in_goal GoalStep = true
-is_in_goal CallStep = false
+abbrev pub goal_step : ℕ
+goal_step = 2
+
+abbrev pub call_step : ℕ
+call_step = 3
+
+abbrev pub kind_of : Step → ℕ
+kind_of (Head k v) = head_step
+kind_of (HeadDeep v) = head_step
+kind_of (Goal k v) = goal_step
+kind_of (GoalDeep v) = goal_step
+kind_of Call = call_step
 
 -- ---- The tests of a line, by an order
 
 -- no head step follows a goal step or `call` (rule 19.3), so the last step is enough
 abbrev pub step_breaks : Order → Step → Bool
-step_breaks order (Head k v) = is_past_head order.kind
-step_breaks order (HeadDeep v) = is_past_head order.kind
+step_breaks order (Head k v) = leb goal_step order.kind
+step_breaks order (HeadDeep v) = leb goal_step order.kind
 step_breaks order (Goal k v) = has order.goal k
 step_breaks order (GoalDeep v) = false
 step_breaks order Call = false
 
-unfoldable pub misplaced_under : Kind → Instruction → Bool
-misplaced_under NoStep instruction = true
-misplaced_under HeadStep instruction = is_put_or_set instruction
-misplaced_under GoalStep instruction = is_get_value_or_unify instruction
-misplaced_under CallStep instruction = true
+unfoldable pub misplaced_under : ℕ → Instruction → Bool
+misplaced_under kind instruction =
+    if eqb kind head_step then is_put_or_set instruction else if eqb kind goal_step then is_get_value_or_unify instruction else true
 
 abbrev pub breaks_order : Order → CheckLine → Bool
 breaks_order order (Begins step) = step_breaks order step
@@ -68,7 +64,7 @@ refusal_by order line = first_of (breaks_order order line) (fits line) (overfill
 -- ---- The order with a line
 
 abbrev pub fresh_order : Order
-fresh_order = record { steps = 0; kind = NoStep; instructions = 0; number_taken = false; goal = empty_set }
+fresh_order = record { steps = 0; kind = no_step; instructions = 0; number_taken = false; goal = empty_set }
 
 -- the goal runs since the last `call`
 abbrev pub goal_after : ℕ → Step → ℕ
@@ -114,4 +110,4 @@ judged order line = judged_as order line (refusal_by order line)
 
 -- rule 19.9: the last step is a goal step
 unfoldable pub refusal_at_end : Order → Option Refusal
-refusal_at_end order = if is_in_goal order.kind then refused_order else accepted
+refusal_at_end order = if eqb order.kind goal_step then refused_order else accepted

@@ -1,7 +1,7 @@
 -- Laws of judged lines: what an accepted line has passed, and what the order says after it.
-use Rattle.std.specs.Prelude.{ℕ, ◌≤◌, ◌<◌, ◌≡◌, Bool, true, false, ◌&&◌, ◌||◌, ltb}
+use Rattle.std.specs.Prelude.{ℕ, ◌≤◌, ◌<◌, ◌≡◌, Bool, true, false, ◌&&◌, ◌||◌, eqb, leb, ltb}
 use Rattle.std.proofs.Math.Path.{refl}
-use Rattle.std.proofs.Common.{sym, ap, ◌∙◌, arith, leb-false, ltb-true}
+use Rattle.std.proofs.Common.{sym, ap, ◌∙◌, arith, leb-false, ltb-true, eqb-true}
 use Rattle.std.proofs.lemmas.Bool.{false≢true}
 use Rattle.std.specs.Prelude.{if◌then◌else◌}
 use Rattle.notation.specs.ChoiceLaws.{both_true}
@@ -13,11 +13,9 @@ use Rattle.instructions.specs.declared.Instruction.{Instruction}
 use Rattle.steps.specs.declared.Step.{Step}
 use Rattle.steps.specs.declared.CheckLine.{CheckLine}
 use Rattle.steps.specs.declared.CheckLine.TheVariants.{Begins, Does}
-use Rattle.steps.specs.declared.Kind.{Kind}
-use Rattle.steps.specs.declared.Kind.TheVariants.{NoStep, HeadStep, GoalStep, CallStep}
 use Rattle.steps.specs.declared.Order.{Order}
-use Rattle.steps.specs.Steps.{is_get_value_or_unify, takes_number, fits, first_of}
-use Rattle.steps.specs.Order.{is_past_head, step_breaks, misplaced_under, breaks_order, overfills, refusal_by, following, judged_as, judged}
+use Rattle.steps.specs.Steps.{is_put_or_set, is_get_value_or_unify, takes_number, fits, first_of}
+use Rattle.steps.specs.Order.{head_step, goal_step, step_breaks, misplaced_under, breaks_order, overfills, refusal_by, following, judged_as, judged}
 
 -- ---- What an accepted line has passed
 
@@ -80,24 +78,34 @@ steps-kept order line h =
 -- a step that could not follow a goal step or `call`
 pub head_goes_on :
     (order : Order) (step : Step) → (judged order (Begins step)).refusal ≡ accepted
-    → step_breaks order step ≡ is_past_head order.kind → is_past_head order.kind ≡ false
-head_goes_on order step good e = sym e ∙ line_in_order order (Begins step) good
+    → step_breaks order step ≡ leb goal_step order.kind → order.kind ≤ head_step
+head_goes_on order step good e =
+    omega (arith, leb-false goal_step order.kind (sym e ∙ line_in_order order (Begins step) good))
 
 under_head :
-    (kind : Kind) (instruction : Instruction) (taken : Bool) → is_get_value_or_unify instruction ≡ true
-    → (misplaced_under kind instruction || taken) ≡ false → kind ≡ HeadStep
-unfolding misplaced_under
-under_head NoStep instruction taken e h = absurd (false≢true (sym h))
-under_head HeadStep instruction taken e h = refl
-under_head GoalStep instruction taken e h = absurd (false≢true (sym h ∙ ap (λ (t : Bool). t || taken) e))
-under_head CallStep instruction taken e h = absurd (false≢true (sym h))
+    (in_head in_goal other demands taken : Bool) → demands ≡ true
+    → ((if in_head then other else if in_goal then demands else true) || taken) ≡ false → in_head ≡ true
+under_head true in_goal other demands taken e h = refl
+under_head false true other demands taken e h = absurd (false≢true (sym h ∙ ap (λ (t : Bool). t || taken) e))
+under_head false false other demands taken e h = absurd (false≢true (sym h))
 
 -- equalities are demanded in the head alone
 pub demands_in_head :
     (order : Order) (instruction : Instruction) → (judged order (Does instruction)).refusal ≡ accepted
-    → is_get_value_or_unify instruction ≡ true → order.kind ≡ HeadStep
+    → is_get_value_or_unify instruction ≡ true → order.kind ≡ head_step
+unfolding misplaced_under
 demands_in_head order instruction good demands =
-    under_head order.kind instruction (order.number_taken && takes_number instruction) demands (line_in_order order (Does instruction) good)
+    eqb-true
+    order.kind
+    head_step
+    (under_head
+    _
+    (eqb order.kind goal_step)
+    (is_put_or_set instruction)
+    _
+    (order.number_taken && takes_number instruction)
+    demands
+    (line_in_order order (Does instruction) good))
 
 -- ---- The sizes as plain facts
 

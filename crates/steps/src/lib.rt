@@ -14,7 +14,6 @@ ghost use Rattle.steps.specs.Steps.{
 };
 ghost use Rattle.steps.specs.Order.{
   kind_of,
-  is_past_head,
   step_breaks,
   misplaced_under,
   breaks_order,
@@ -36,6 +35,15 @@ use refusals::Refusal;
 use registers::RegType;
 use sizes::{INSTRUCTIONS, STEPS, VARIABLES};
 
+// The kinds of the last step line.
+pub const NO_STEP: u32 = 0;
+
+pub const HEAD_STEP: u32 = 1;
+
+pub const GOAL_STEP: u32 = 2;
+
+pub const CALL_STEP: u32 = 3;
+
 // A step line: argument k or a deep subterm is variable v, in the head or in a goal; or the goal is called.
 #[derive(Clone, Copy)]
 pub enum Step {
@@ -53,21 +61,12 @@ pub enum CheckLine {
     Does(Instruction),
 }
 
-// What the last step line is.
-#[derive(Clone, Copy, PartialEq, Eq)]
-pub enum Kind {
-    NoStep,
-    HeadStep,
-    GoalStep,
-    CallStep,
-}
-
 // What the lines so far say of the next one: how many step lines there are; the kind of the last one, how many instructions
 // stand under it, and whether one of them takes the step's number; and the arguments of the goal since the last `call`.
 #[derive(Clone, Copy)]
 pub struct Order {
     pub steps: u32,
-    pub kind: Kind,
+    pub kind: u32,
     pub instructions: u32,
     pub number_taken: bool,
     pub goal: BitSet,
@@ -87,7 +86,7 @@ pub fn fresh_order() -> Order
 {
     Order {
         steps: 0,
-        kind: Kind::NoStep,
+        kind: NO_STEP,
         instructions: 0,
         number_taken: false,
         goal: bit_set::empty(),
@@ -97,13 +96,13 @@ pub fn fresh_order() -> Order
 // ---- Order
 
 // The kind of a step.
-fn kind_of(step: Step) -> Kind
+fn kind_of(step: Step) -> u32
     ensures { result ≡ kind_of step }
 {
     match step {
-        Step::Head(_, _) | Step::HeadDeep(_) => Kind::HeadStep,
-        Step::Goal(_, _) | Step::GoalDeep(_) => Kind::GoalStep,
-        Step::Call => Kind::CallStep,
+        Step::Head(_, _) | Step::HeadDeep(_) => HEAD_STEP,
+        Step::Goal(_, _) | Step::GoalDeep(_) => GOAL_STEP,
+        Step::Call => CALL_STEP,
     }
 }
 
@@ -149,19 +148,12 @@ fn takes_number(instruction: Instruction) -> bool
     )
 }
 
-// Whether a step of a kind ends the head.
-fn is_past_head(kind: Kind) -> bool
-    ensures { result ≡ is_past_head kind }
-{
-    matches!(kind, Kind::GoalStep | Kind::CallStep)
-}
-
 // Whether a step is out of order: a head step after a goal step or a call, or an argument that the goal has already.
 fn step_breaks(order: Order, step: Step) -> bool
     ensures { result ≡ step_breaks order step }
 {
     match step {
-        Step::Head(_, _) | Step::HeadDeep(_) => is_past_head(order.kind),
+        Step::Head(_, _) | Step::HeadDeep(_) => GOAL_STEP <= order.kind,
         Step::Goal(k, _) => bit_set::contains(order.goal, k),
         Step::GoalDeep(_) | Step::Call => false,
     }
@@ -169,13 +161,13 @@ fn step_breaks(order: Order, step: Step) -> bool
 
 // Whether an instruction may not stand under a step of a kind.
 #[tactic(auto, unfolding(crate::specs::Order::misplaced_under))]
-fn is_misplaced(kind: Kind, instruction: Instruction) -> bool
+fn is_misplaced(kind: u32, instruction: Instruction) -> bool
     ensures { result ≡ misplaced_under kind instruction }
 {
     match kind {
-        Kind::HeadStep => is_put_or_set(instruction),
-        Kind::GoalStep => is_get_value_or_unify(instruction),
-        Kind::NoStep | Kind::CallStep => true,
+        HEAD_STEP => is_put_or_set(instruction),
+        GOAL_STEP => is_get_value_or_unify(instruction),
+        _ => true,
     }
 }
 
@@ -352,7 +344,7 @@ pub fn refusal_at_end(order: Order) -> Option<Refusal>
     ensures { result ≡ refusal_at_end order }
 {
     match order.kind {
-        Kind::GoalStep => Some(Refusal::Order),
-        Kind::NoStep | Kind::HeadStep | Kind::CallStep => None,
+        GOAL_STEP => Some(Refusal::Order),
+        _ => None,
     }
 }
