@@ -25,5 +25,5 @@ filled_by (Ok count) text out = text ++ drop count out
 filled_by (Err told) text out = out
 
 -- rules 2.5, 18.4, 22.1: a refusal as it is printed
-unfoldable pub refusal_text : ℕ → Refusal → List ℕ
-refusal_text number refusal = line (bytes "no" ∷ decimal number ∷ decimal (refusal_number refusal) ∷ [])
+unfoldable pub refusal_text : ℕ → ℕ → List ℕ
+refusal_text number refusal = line (bytes "no" ∷ decimal number ∷ decimal refusal ∷ [])

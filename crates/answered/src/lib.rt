@@ -18,12 +18,12 @@ pub struct Refused {
 pub type Answered = Result<usize, Refused>;
 
 // The line of a refusal: `no`, the line and the refusal's number.
-pub fn put_refusal(out: &mut [u8], at: usize, line: u32, refusal: Refusal) -> usize
+pub fn put_refusal(out: &mut [u8], at: usize, line: u32, refusal: u32) -> usize
     ensures { Put out.old at (refusal_text line refusal) result out.new }
 {
     let named = printing::put_word(out, at, b"no\t");
     let numbered = printing::put_number(out, named, line);
     let parted = printing::put_byte(out, numbered, TAB);
-    let refused = printing::put_number(out, parted, refusal.number());
+    let refused = printing::put_number(out, parted, refusal);
     printing::put_byte(out, refused, LINE_FEED)
 }

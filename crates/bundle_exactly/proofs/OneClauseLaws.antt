@@ -6,7 +6,7 @@ use mathlib.Core.List.{List, [], ◌∷◌}
 use Rattle.std.proofs.Math.ListN.{length-append}
 use Rattle.refusals.specs.declared.Refusal.{Refusal}
 use Rattle.refusals.specs.declared.Refusal.TheVariants.{Room}
-use Rattle.refusals.specs.Refusals.{accepted, is_refused}
+use Rattle.refusals.specs.Refusals.{number_of as refusal_number, accepted, is_refused}
 use Rattle.sizes.specs.Sizes.{sheet_bytes}
 use Rattle.split.specs.Split.{line_feed}
 use Rattle.answered.specs.Answered.{refused, filled_by, refusal_text}
@@ -52,7 +52,7 @@ module _ (body : Body) where
 
       no_line :
           (room : ℕ) {number : ℕ} {refusal : Refusal} → 1 ≤ number → sheet_answered (sheet body) room ≡ refused number refusal
-          → clause_texts (body ∷ []) ≡ refusal_text number refusal
+          → clause_texts (body ∷ []) ≡ refusal_text number (refusal_number refusal)
       no_line room some h = text-one body ∙ refused_costs_its_line body sheet-fits room some h
 
       -- ---- The answer to the bundle by that to the sheet
@@ -84,8 +84,8 @@ module _ (body : Body) where
       -- refused at a line: its `no` line, where there is room for that
       pub one-refused :
           (out : List ℕ) {number : ℕ} {refusal : Refusal} → 1 ≤ number → sheet_answered (sheet body) (length out) ≡ refused number refusal
-          → length (refusal_text number refusal) ≤ length out
-          → AnsweredWith (bundle body) out (refusal_text number refusal)
+          → length (refusal_text number (refusal_number refusal)) ≤ length out
+          → AnsweredWith (bundle body) out (refusal_text number (refusal_number refusal))
       one-refused out some h room =
           let text = no_line (length out) some h in
           let fits : length (clause_texts (body ∷ [])) ≤ length out = omega (arith, room, ap length text) in
@@ -94,7 +94,7 @@ module _ (body : Body) where
 
       pub one-refused_roomless :
           (room : ℕ) {number : ℕ} {refusal : Refusal} → 1 ≤ number → sheet_answered (sheet body) room ≡ refused number refusal
-          → room < length (refusal_text number refusal)
+          → room < length (refusal_text number (refusal_number refusal))
           → answered (bundle body) room ≡ refused 0 Room
       one-refused_roomless room some h small =
           bodies_roomless (body ∷ []) own room short (omega (arith, small, ap length (no_line room some h)))

@@ -376,11 +376,11 @@ end-last m p =
     (inl refl)
     (λ fields e. (let alike : bytes "end" ≡ bytes "no" = cc in omega (arith, ap length alike)))
 
-refusal_last : (number : ℕ) (refusal : Refusal) → 1 ≤ number → Last (refusal_text number refusal)
+refusal_last : (number refusal : ℕ) → 1 ≤ number → Last (refusal_text number refusal)
 unfolding refusal_text Clear all_free free
 refusal_last number refusal some =
-    last_line (bytes "no") (decimal number ∷ decimal (refusal_number refusal) ∷ [])
-    (numbers_free tab low_tab number (refusal_number refusal), numbers_free line_feed low_feed number (refusal_number refusal))
+    last_line (bytes "no") (decimal number ∷ decimal refusal ∷ [])
+    (numbers_free tab low_tab number refusal, numbers_free line_feed low_feed number refusal)
     (inr refl)
     (λ fields e. (let at_zero : decimal number ≡ bytes "0" = cc in omega (arith, zero-printed number at_zero)))
 
@@ -412,7 +412,7 @@ unfolding clause_text ran_text sheet_ran
 clause_closed body =
     let r = sheet_ran (sheet_of body) in
     elim r.refusal as (λ (refusal : Option Refusal). r.refusal ≡ refusal → Closed (told_or r.line refusal r.text)) [
-      | Some refusal ↦ λ e. only-last (refusal_last r.line refusal (clause_line_positive (sheet_of body) (ap is_refused e)))
+      | Some refusal ↦ λ e. only-last (refusal_last r.line (refusal_number refusal) (clause_line_positive (sheet_of body) (ap is_refused e)))
       | None ↦ λ e. ran-closed (split line_feed (sheet_of body)) fresh_state 1 (ap is_refused e)
     ]
     refl

@@ -4,7 +4,7 @@ use Rattle.std.proofs.Math.Path.{refl, ap, ap₂, sym}
 use Rattle.std.proofs.Common.{◌∙◌, arith, le-ltb}
 use Rattle.notation.specs.ChoiceLaws.{either}
 use Rattle.refusals.specs.declared.Refusal.{Refusal}
-use Rattle.refusals.specs.Refusals.{accepted}
+use Rattle.refusals.specs.Refusals.{number_of as refusal_number, accepted}
 use Rattle.sizes.specs.Sizes.{sheet_bytes}
 use Rattle.answered.specs.Answered.{Answered, refused, refusal_text}
 use Rattle.answered.specs.NumberLaws.{line_in, told_alike}
@@ -37,18 +37,18 @@ module _ (body : Body) where
       pub refused-sheet : (room : ℕ) → sheet_answered (sheet body) room ≡ refused (run body).line refusal
       refused-sheet room = sheet-by-run room ∙ refused_alike (run body) room e
 
-      refused-text : clause_text body ≡ refusal_text (run body).line refusal
+      refused-text : clause_text body ≡ refusal_text (run body).line (refusal_number refusal)
       unfolding clause_text ran_text
       refused-text = simp e
 
     -- rules 18.4, 18.7: where the sheet is refused at a line, the clause prints its `no` line and nothing else, also among others
     pub refused_costs_its_line :
         (room : ℕ) {number : ℕ} {refusal : Refusal} → 1 ≤ number → sheet_answered (sheet body) room ≡ refused number refusal
-        → clause_text body ≡ refusal_text number refusal
+        → clause_text body ≡ refusal_text number (refusal_number refusal)
     refused_costs_its_line room {number} {refusal} some h =
-        elim (run body).refusal as (λ (r : Option Refusal). (run body).refusal ≡ r → clause_text body ≡ refusal_text number refusal) [
+        elim (run body).refusal as (λ (r : Option Refusal). (run body).refusal ≡ r → clause_text body ≡ refusal_text number (refusal_number refusal)) [
           | Some why ↦ λ e. (let alike = told_alike (sym (refused-sheet e room) ∙ h) in
-              refused-text e ∙ ap₂ refusal_text alike.0 alike.1)
+              refused-text e ∙ ap₂ refusal_text alike.0 (ap refusal_number alike.1))
           | None ↦ λ e. absurd (omega (arith, accepted-whole (run body) room e, ap line_in (sym (sheet-by-run room) ∙ h)))
         ]
         refl

@@ -3,7 +3,7 @@ use Rattle.std.specs.Prelude.{ℕ, ◌-◌, Bool, false, not, ◌&&◌, ◌||◌
 use Rattle.std.specs.Prelude.{if◌then◌else◌}
 use Rattle.notation.specs.Text.{bytes}
 use Rattle.refusals.specs.declared.Refusal.{Refusal}
-use Rattle.refusals.specs.Refusals.{accepted, refused_form, refused_order, refused_full}
+use Rattle.refusals.specs.Refusals.{number_of as refusal_number, accepted, refused_form, refused_order, refused_full}
 use Rattle.sizes.specs.Sizes.{sheet_bytes}
 use Rattle.split.specs.Split.{tab, line_feed, before, split}
 use Rattle.words.specs.Words.{same}
@@ -42,7 +42,7 @@ sheet_of (line ∷ lines) = line ++ (line_feed ∷ sheet_of lines)
 
 -- rules 18.4, 18.7: of a sheet that is refused only its `no` line
 abbrev pub told_or : ℕ → Option Refusal → List ℕ → List ℕ
-told_or line (Some refusal) text = refusal_text line refusal
+told_or line (Some refusal) text = refusal_text line (refusal_number refusal)
 told_or line None text = text
 
 unfoldable pub ran_text : Ran → List ℕ

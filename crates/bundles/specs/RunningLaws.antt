@@ -243,19 +243,19 @@ module _ {rest left : List ℕ} {bytes end : ℕ} (k : Seeking rest left bytes e
 abbrev pub refusal_bytes : ℕ
 refusal_bytes = 32
 
-pub refusal_short : (number : ℕ) (refusal : Refusal) → length (refusal_text number refusal) ≤ refusal_bytes
+pub refusal_short : (number refusal : ℕ) → length (refusal_text number refusal) ≤ refusal_bytes
 unfolding refusal_text instructions.line joined
 refusal_short number refusal =
     omega (
       arith,
-      length-append (bytes "no" ++ (tab ∷ (decimal number ++ (tab ∷ decimal (refusal_number refusal))))) (line_feed ∷ []),
-      length-append (decimal number) (tab ∷ decimal (refusal_number refusal)),
+      length-append (bytes "no" ++ (tab ∷ (decimal number ++ (tab ∷ decimal refusal)))) (line_feed ∷ []),
+      length-append (decimal number) (tab ∷ decimal refusal),
       decimal-length number,
-      decimal-length (refusal_number refusal),
+      decimal-length refusal,
     )
 
 module _ (sheet : List ℕ) where
-  text-refused : {refusal : Refusal} → (sheet_ran sheet).refusal ≡ Some refusal → ran_text (sheet_ran sheet) ≡ refusal_text (sheet_ran sheet).line refusal
+  text-refused : {refusal : Refusal} → (sheet_ran sheet).refusal ≡ Some refusal → ran_text (sheet_ran sheet) ≡ refusal_text (sheet_ran sheet).line (refusal_number refusal)
   unfolding ran_text
   text-refused h = simp h
 
@@ -268,7 +268,7 @@ module _ (sheet : List ℕ) where
   unfolding ran_text
   clause_short =
       elim (sheet_ran sheet).refusal as (λ r. length (told_or (sheet_ran sheet).line r (sheet_ran sheet).text) ≤ longest * (length sheet + 1))
-      [ Some refusal ↦ omega (arith, refusal_short (sheet_ran sheet).line refusal) | None ↦ sheet_short sheet ]
+      [ Some refusal ↦ omega (arith, refusal_short (sheet_ran sheet).line (refusal_number refusal)) | None ↦ sheet_short sheet ]
 
   module _ (short : length sheet ≤ sheet_bytes) {run : Run} (e : run ≡ told (whole_ran sheet)) where
     is-told : run ≡ told (sheet_ran sheet)
@@ -280,11 +280,11 @@ module _ (sheet : List ℕ) where
     module _ (out : List ℕ) (at : ℕ) where
       pub clause_refused :
           {n : ℕ} {refusal : Refusal} {between after : List ℕ} → run.refusal ≡ Some refusal → between ≡ printed out at (whole_ran sheet).text
-          → n ≡ length (refusal_text run.line refusal)
-          → after ≡ printed between at (refusal_text run.line refusal)
+          → n ≡ length (refusal_text run.line (refusal_number refusal))
+          → after ≡ printed between at (refusal_text run.line (refusal_number refusal))
           → (n ≡ length (ran_text (sheet_ran sheet))) × Fronts out at (ran_text (sheet_ran sheet)) after
       clause_refused {refusal = refusal} bad first counted put =
-          let text = ap (λ line. refusal_text line refusal) (ap (λ r. r.line) is-told) ∙ sym (text-refused (sym (ap (λ r. r.refusal) is-told) ∙ bad)) in
+          let text = ap (λ line. refusal_text line (refusal_number refusal)) (ap (λ r. r.line) is-told) ∙ sym (text-refused (sym (ap (λ r. r.refusal) is-told) ∙ bad)) in
           (counted ∙ ap length text, fronts_over out at _ _ first (put ∙ ap (printed _ at) text))
 
       pub clause_printed :

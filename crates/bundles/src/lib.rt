@@ -18,7 +18,7 @@ ghost use Rattle.bundles.specs.Bundles.{
   answered,
   filled,
 };
-ghost use Rattle.refusals.specs.Refusals.{accepted};
+ghost use Rattle.refusals.specs.Refusals.{number_of as refusal_number, accepted};
 ghost use Rattle.bundles.specs.Running.{refusal_before, clauses_ran, Fronts};
 
 use answered::{Answered, Refused};
@@ -60,11 +60,11 @@ fn end_of_clause(rest: &[u8]) -> usize
 
 // Puts the line of a refusal at a place; its length, which counts also where the room has ended.
 fn add_refusal(out: &mut [u8], at: usize, line: u32, refusal: Refusal) -> usize
-    ensures value { result ≡ length (refusal_text line refusal) }
-    ensures out_after { out.new ≡ printed out.old at (refusal_text line refusal) }
+    ensures value { result ≡ length (refusal_text line (refusal_number refusal)) }
+    ensures out_after { out.new ≡ printed out.old at (refusal_text line (refusal_number refusal)) }
 {
     let mut scratch = [0; REFUSAL_BYTES];
-    let length = answered::put_refusal(&mut scratch[..], 0, line, refusal);
+    let length = answered::put_refusal(&mut scratch[..], 0, line, refusal.number());
     printing::put_word(out, at, split::part_before(&scratch, length));
     length
 }

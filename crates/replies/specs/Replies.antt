@@ -1,5 +1,6 @@
 -- What a program prints of a sheet: rule 22.1.
 use Rattle.std.specs.Prelude.{ℕ, ◌≤◌, ◌≡◌, Bool, List, Ok, Err}
+use Rattle.refusals.specs.Refusals.{number_of as refusal_number}
 use Rattle.sizes.specs.Sizes.{largest_number}
 use Rattle.printing.specs.Printing.{Put}
 use Rattle.answered.specs.Answered.{Answered, refusal_text}
@@ -9,7 +10,7 @@ use Rattle.check_sheets.specs.CheckSheets.{word_of, answered as check_answered}
 
 abbrev pub replied : Answered → List ℕ → List ℕ
 replied (Ok count) text = text
-replied (Err told) text = refusal_text told.line told.refusal
+replied (Err told) text = refusal_text told.line (refusal_number told.refusal)
 
 -- the reply to a sheet with so much room for its answer
 unfoldable pub event_reply : List ℕ → ℕ → List ℕ
@@ -31,4 +32,4 @@ Printable (Err told) = told.line ≤ largest_number
 -- the bytes stay as the answer left them, up to its count; or a refusal's line is put
 abbrev pub Told : Answered → List ℕ → ℕ → List ℕ → Type 0
 Told (Ok count) out next after = (next ≡ count) × (after ≡ out)
-Told (Err told) out next after = Put out 0 (refusal_text told.line told.refusal) next after
+Told (Err told) out next after = Put out 0 (refusal_text told.line (refusal_number told.refusal)) next after

@@ -2,6 +2,7 @@
 use Rattle.std.specs.Prelude.{ℕ, ◌+◌, ◌≤◌, ◌≡◌, refl, Bool, List, ◌++◌, length, drop, Ok, Err}
 use Rattle.std.proofs.Common.{sym, subst, zero-add, arith, length-append, length-drop, take_all, le-leb}
 use Rattle.refusals.specs.declared.Refusal.{Refusal}
+use Rattle.refusals.specs.Refusals.{number_of as refusal_number}
 use Rattle.sizes.specs.Sizes.{sheet_bytes, largest_number}
 use Rattle.printing.specs.Printing.{printed, place_after, Put}
 use Rattle.answered.specs.Answered.{Answered, refused, filled_by, refusal_text}
@@ -20,7 +21,7 @@ module _ {a : Answered} {number : ℕ} {refusal : Refusal} (e : a ≡ refused nu
   pub refused_printable : Printable a → number ≤ largest_number
   refused_printable p = subst Printable e p
 
-  pub refused-told : {out : List ℕ} {next : ℕ} {after : List ℕ} → Put out 0 (refusal_text number refusal) next after → Told a out next after
+  pub refused-told : {out : List ℕ} {next : ℕ} {after : List ℕ} → Put out 0 (refusal_text number (refusal_number refusal)) next after → Told a out next after
   refused-told {out} {next} {after} put = subst (λ a. Told a out next after) (sym e) put
 
 pub written-told : {a : Answered} {count : ℕ} → a ≡ Ok count → (out : List ℕ) → Told a out count out

@@ -21,7 +21,12 @@ fn put_told(answered: Answered, out: &mut [u8]) -> usize
 {
     match answered {
         Ok(count) => count,
-        Err(refused) => answered::put_refusal(out, 0, refused.line as u32, refused.refusal),
+        Err(refused) => answered::put_refusal(
+            out,
+            0,
+            refused.line as u32,
+            refused.refusal.number(),
+        ),
     }
 }
 

@@ -8,9 +8,8 @@ use Rattle.answered.proofs.put_refusal.Goals as goal
 pub returns : goal.returns
 unfolding refusal_text line joined
 returns c =
-    rw (← c.number.ensures)
-    (put_then
+    put_then
     c.put_word-named.ensures
     (put_then
     (put_then c.put_number-numbered.ensures (put_then c.put_byte-parted.ensures c.put_number-refused.ensures))
-    c.put_byte.ensures))
+    c.put_byte.ensures)

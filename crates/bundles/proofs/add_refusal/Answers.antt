@@ -5,4 +5,6 @@ use Rattle.bundles.specs.RunningLaws.{refusal_short}
 use Rattle.bundles.proofs.add_refusal.Goals as goal
 
 pub returns : goal.returns
-returns c = let line = added (search (rules, refusal_short c.args.line c.args.refusal)) c.put_refusal-length.ensures c.part_before.ensures c.put_word.ensures in (record { value = line.counted; out_after = line.put.bytes })
+returns c =
+    rw (← c.number.ensures)
+    (let line = added (search (rules, refusal_short c.args.line c.number.result)) c.put_refusal-length.ensures c.part_before.ensures c.put_word.ensures in (record { value = line.counted; out_after = line.put.bytes }))

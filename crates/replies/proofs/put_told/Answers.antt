@@ -12,4 +12,4 @@ returns-in-Ok c = written-told c.in-Ok.is _
 
 pub returns-in-Err : goal.returns-in-Err
 returns-in-Err c =
-    refused-told c.in-Err.is c.put_refusal.ensures
+    refused-told c.in-Err.is (rw (← c.number.ensures) c.put_refusal.ensures)
