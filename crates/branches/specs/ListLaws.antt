@@ -1,9 +1,9 @@
 -- Laws of words on lists: a loop that makes a step for each entry, one turn at a time. `whole` is what the whole list
 -- makes; what is left of the list makes it from what the loop has so far.
-use Rattle.std.specs.Prelude.{ℕ, zero, suc, ◌+◌, ◌-◌, ◌/◌, ◌%◌, ◌^◌, ◌≤◌, ◌<◌, ◌≡◌, List, [], ◌∷◌, eqb, length, get_or, drop}
+use Rattle.std.specs.Prelude.{ℕ, zero, suc, ◌+◌, ◌-◌, ◌*◌, ◌/◌, ◌%◌, ◌^◌, ◌≤◌, ◌<◌, ◌≡◌, List, [], ◌∷◌, eqb, length, get_or, drop}
 use Rattle.std.proofs.Math.Path.{refl, ap, sym}
 use Rattle.std.proofs.Common.{◌∙◌, arith, add-one, drop_of_length-le, shr-shr, drop-cons}
-use Rattle.std.proofs.Math.Nat.{div-eq_of_lt}
+use Rattle.std.proofs.Math.Nat.{div-eq_of_lt, div-eq_of_lt-le, pow-succ'}
 use Rattle.std.proofs.Math.Pow.{pow_mono}
 use Rattle.std.proofs.Math.Bool.{true, false}
 use Rattle.std.specs.Prelude.{if◌then◌else◌}
@@ -49,6 +49,16 @@ none-among set v (suc n) e =
 -- a set has no member from the number on that its digits end at
 pub none-past : (set m : ℕ) → set < 2 ^ m → (v : ℕ) → m ≤ v → members_from set v ≡ []
 none-past set m small v past = none-among set v (variables - v) (div-eq_of_lt (omega (arith, small, pow_mono past)))
+
+-- the number before is a member: its last one
+pub last-member : (set m n : ℕ) → set < 2 ^ m → 2 ^ m ≤ 2 * set + 1 → n ≡ m → 0 < n → has set (n - 1) ≡ true
+unfolding has
+last-member set m zero small large e some = absurd (omega arith)
+last-member set m (suc j) small large e some =
+    let double : 2 ^ m ≡ 2 * 2 ^ j = ap (λ (k : ℕ). 2 ^ k) (sym e) ∙ pow-succ' 2 j in
+    let one : set / 2 ^ j ≡ 1 = div-eq_of_lt-le {k = 1} (2 ^ j) (omega (arith, double)) (omega (arith, double)) in
+    let here : suc j - 1 ≡ j = omega arith in
+    ap (has set) here ∙ ap (λ (x : ℕ). eqb (x % 2) 1) one
 
 -- ---- A step for each entry
 

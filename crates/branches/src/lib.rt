@@ -1,7 +1,7 @@
 // Open branches: opened, led from arm to arm, taken stock of and closed, and what they record of variables.
 #![tactic(auto)]
 
-ghost use Rattle.std.specs.Prelude.{◌≡◌, ℕ, ◌≤◌, ◌&&◌, []};
+ghost use Rattle.std.specs.Prelude.{◌≡◌, ℕ, ◌-◌, ◌≤◌, ◌<◌, true, ◌&&◌, []};
 ghost use Rattle.sizes.specs.Sizes.{variables};
 ghost use Rattle.bit_set.specs.BitSet.{has, inserted};
 ghost use Rattle.variable_records.specs.Rows.{is_temporary};
@@ -289,10 +289,11 @@ pub fn pop_branch(
     Ok(left)
 }
 
-// The number after a set's last member: a loop over the members ends there.
+// The number after a set's last member, 0 where it has none: a loop over the members ends there.
 fn past_last(set: BitSet) -> u32
     ensures within { result ≤ variables }
     ensures none_from { (v : ℕ) → result ≤ v → members_from set v ≡ [] }
+    ensures last_before { 0 < result → has set (result - 1) ≡ true }
 {
     VARIABLES as u32 - u64::leading_zeros(set)
 }
