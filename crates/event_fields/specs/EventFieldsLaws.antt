@@ -1,8 +1,9 @@
--- Laws of entries: what is outside its size is refused by it, and nothing else is.
-use Rattle.std.specs.Prelude.{ℕ, ◌≤◌, ◌≡◌, refl, true, false, ◌&&◌, leb, ltb}
-use Rattle.std.proofs.Common.{arith, le-leb, leb-true, le-ltb, ltb-true, ltb-false, ne_eqb}
+-- Laws of fields that are one letter, and of entries: what is outside its size is refused by it, and nothing else is.
+use Rattle.std.specs.Prelude.{ℕ, ◌≤◌, ◌≡◌, refl, List, [], ◌∷◌, true, false, ◌&&◌, eqb, leb, ltb}
+use Rattle.std.proofs.Common.{sym, arith, le-leb, leb-true, le-ltb, ltb-true, ltb-false, ne_eqb}
 use Rattle.std.specs.Prelude.{if◌then◌else◌}
 use Rattle.notation.specs.ChoiceLaws.{both_true}
+use Rattle.words.specs.Words.{same}
 use Rattle.sizes.specs.Sizes.{variables, registers, chunks, is_register, is_chunk}
 use Rattle.forms.specs.declared.GenContext.{GenContext}
 use Rattle.forms.specs.declared.GenContext.TheVariants.{Head, Mid, Last}
@@ -12,6 +13,27 @@ use Rattle.temp_var_data.specs.UsesLaws.{context_of_use, register_of_use}
 use Rattle.events.specs.declared.Entries.TheVariants.{Arguments}
 use Rattle.events.specs.Events.{is_context, is_use, entry_fits}
 use Rattle.event_fields.specs.EventFields.{code_in, no_use, use_in, no_such_variable, variable_entry}
+
+-- ---- Letters
+
+-- in the place of a field's one byte: no letter has that number
+abbrev pub no_letter : ℕ
+no_letter = 0
+
+-- the one byte of a field that has no other
+unfoldable pub only_byte : List ℕ → ℕ
+only_byte [] = no_letter
+only_byte (c ∷ []) = c
+only_byte (c ∷ (d ∷ ds)) = no_letter
+
+-- a field is the word of one letter exactly if its one byte is that letter
+pub same_letter :
+    (letter : ℕ) → eqb no_letter letter ≡ false → (field : List ℕ) → same field (letter ∷ []) ≡ eqb (only_byte field) letter
+unfolding only_byte same
+same_letter letter h [] = sym h
+same_letter letter h (c ∷ []) = elim (eqb c letter) as (λ t. (t && true) ≡ t) [ true ↦ refl | false ↦ refl ]
+same_letter letter h (c ∷ (d ∷ ds)) =
+    elim (eqb c letter) as (λ t. (t && false) ≡ eqb no_letter letter) [ true ↦ sym h | false ↦ sym h ]
 
 -- ---- Uses
 

@@ -2,8 +2,13 @@
 use Rattle.std.specs.Prelude.{ℕ, ◌<◌, ◌≡◌, length, get_or}
 use Rattle.std.proofs.Common.{sym, ◌∙◌, arith, ext_get_or}
 use mathlib.Core.List.{List, map}
+use Rattle.std.proofs.lemmas.List.{get_or_default}
 use Rattle.restricting_sets.specs.Restricting.{below}
 use Rattle.restricting_sets.specs.BelowLaws.{map-length, map_at}
+
+-- within a list it does not matter what stands past its end
+pub any_default : (ns : List ℕ) (i a b : ℕ) → i < length ns → get_or ns i a ≡ get_or ns i b
+any_default ns i a b h = get_or_default ns i a b h
 
 -- a table whose rows are all made
 pub rows_made :

@@ -24,6 +24,13 @@ same_self (c ∷ cs) = simp (eq-eqb c c refl, same_self cs)
 pub same_exactly : (a b : List ℕ) → (same a b ≡ true) ↔ (a ≡ b)
 same_exactly a b = (same_sound a b, λ e. subst (λ (x : List ℕ). same a x ≡ true) e (same_self a))
 
+-- lists of two lengths are not the same
+pub same_length : (a b : List ℕ) → (length a ≡ length b → ⊥) → same a b ≡ false
+same_length a b h =
+    elim (same a b) as (λ t. same a b ≡ t → same a b ≡ false)
+    [ true ↦ λ e. absurd (h (ap length (same_sound a b e))) | false ↦ λ e. e ]
+    refl
+
 -- the library compares pair by pair, too
 pub pointwise-same : (a b : List ℕ) → pointwise eqb a b ≡ same a b
 unfolding same
