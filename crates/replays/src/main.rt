@@ -124,12 +124,22 @@ fn read_exactly(from: &mut impl Read, bytes: &mut [u8], size: usize) -> Result<(
     Err(cut_short(from))
 }
 
+// Whether bytes are as they were before. All are looked at, since a walk that ends at the first other one takes longer where
+// there is none.
+fn is_untouched(bytes: &[u8]) -> bool {
+    let mut changed = 0;
+    for byte in bytes {
+        changed |= *byte ^ UNTOUCHED;
+    }
+    changed == 0
+}
+
 // Whether a reply that ends at `end` is the one that is wanted, and what is behind it was there before.
 fn is_wanted(out: &[u8], end: usize, wanted: &[u8]) -> bool {
     let Some((reply, behind)) = out.split_at_checked(end) else {
         return false;
     };
-    words::is(reply, wanted) && behind.iter().all(|byte| *byte == UNTOUCHED)
+    words::is(reply, wanted) && is_untouched(behind)
 }
 
 fn put_reply(kind: Kind, sheet: &[u8], out: &mut [u8]) -> usize {

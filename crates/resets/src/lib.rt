@@ -133,7 +133,6 @@ pub fn reset_contents(counters: Counters, mappings: &mut Mappings) -> Counters
 }
 
 // The same, and slots are given out from the first on.
-#[tactic(auto, unfolding(crate::specs::Resets::whole_reset))]
 pub fn reset(counters: Counters, mappings: &mut Mappings) -> Counters
     ensures { clearing mappings.new result ≡ whole_reset counters }
 {

@@ -92,7 +92,7 @@ fn no_use_of(no_use_set: BitSet, sets: &VariableSets, chunks: &Chunks, v: u32) -
     let own = temp_var_data::used_registers(&sets.use_sets, &sets.use_counts, v);
     let mut set = no_use_set;
     for u in 0..VARIABLES as u32 {
-        if is_temporary(chunks, u) {
+        if let Some(_) = chunk_of(chunks, u) {
             let last = last_uses(sets, u, chunk);
             set = with_uses(set, last, own, u, v);
         }
