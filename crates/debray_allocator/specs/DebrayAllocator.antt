@@ -7,6 +7,7 @@ use Rattle.code_deque.specs.declared.CodeDeque.TheVariants.{Empty}
 use Rattle.allocator_state.specs.declared.Counters.{Counters}
 use Rattle.allocator_state.specs.Counters.{with_events_seen}
 use Rattle.restricting_sets.specs.declared.VariableSets.{VariableSets}
+use Rattle.branch_stack.specs.declared.BranchStack.{BranchStack}
 use Rattle.freeing.specs.declared.Released.{Released}
 use Rattle.freeing.specs.Freeing.{Release, ReleaseOf, freed}
 use Rattle.marks.specs.declared.Marked.{Marked}
@@ -22,29 +23,35 @@ use Rattle.events.specs.Events.{is_record, refusal_before}
 use Rattle.debray_allocator.specs.declared.State.{State}
 use Rattle.debray_allocator.specs.declared.Acted.{Acted}
 use Rattle.debray_allocator.specs.declared.Answer.{Answer}
-use Rattle.debray_allocator.specs.State.{put_counters, put_records, put_sets, put_mappings, put_freed_registers, put_freed_slots, put_branches}
+use Rattle.debray_allocator.specs.State.{state_of, put_records, put_sets, put_mappings, put_freed_registers, put_freed_slots, put_branches}
 
--- ---- What a line makes: the instructions, the place for `at`, the refusal
+-- ---- What a line makes: the counters, the instructions, the place for `at`, the refusal
 
-abbrev pub by_refusal : Option Refusal → Acted
-by_refusal refusal = record { code = Empty; at = None; refusal = refusal }
+abbrev pub by_refusal : Counters → Option Refusal → Acted
+by_refusal c refusal = record { counters = c; code = Empty; at = None; refusal = refusal }
 
-abbrev pub plainly : Acted
-plainly = by_refusal accepted
+abbrev pub plainly : Counters → Acted
+plainly c = by_refusal c accepted
 
 abbrev pub by_release : Released → Acted
-by_release r = by_refusal r.refusal
+by_release r = by_refusal r.counters r.refusal
 
 abbrev pub by_mark : Marked → Acted
-by_mark m = record { code = m.reached.code; at = Some m.place; refusal = m.reached.refusal }
+by_mark m = record { counters = m.reached.counters; code = m.reached.code; at = Some m.place; refusal = m.reached.refusal }
 
--- with the state afterwards
-abbrev pub answer_of : State → Acted → Answer
-answer_of s acted = record { state = s; code = acted.code; at = acted.at; refusal = acted.refusal }
+-- with the tables afterwards
+abbrev pub answer_of : List ℕ → VariableSets → List ℕ → List ℕ → List ℕ → BranchStack → Acted → Answer
+answer_of records sets mappings freed_registers freed_slots branches acted =
+    record {
+      state = state_of acted.counters records sets mappings freed_registers freed_slots branches;
+      code = acted.code;
+      at = acted.at;
+      refusal = acted.refusal;
+    }
 
--- with the tables of a state, and other counters
-abbrev pub with_counters : State → Counters → Acted → Answer
-with_counters s c acted = answer_of (put_counters c s) acted
+-- with the tables of a state
+abbrev pub with_counters : State → Acted → Answer
+with_counters s acted = answer_of s.records s.sets s.mappings s.freed_registers s.freed_slots s.branches acted
 
 -- ---- The state with the tables that an event may change
 
@@ -54,47 +61,46 @@ put_record_tables t s = put_records t.records (put_sets t.sets s)
 
 module _ (s : State) where
   abbrev pub only_counters : Counters → Answer
-  only_counters c = with_counters s c plainly
+  only_counters c = with_counters s (plainly c)
 
   abbrev pub with_recording : Recording → Answer
-  with_recording r = with_counters (put_record_tables r.tables s) r.released.counters (by_release r.released)
+  with_recording r = with_counters (put_record_tables r.tables s) (by_release r.released)
 
   abbrev pub with_restricting : VariableSets → Answer
-  with_restricting sets = answer_of (put_sets sets s) plainly
+  with_restricting sets = with_counters (put_sets sets s) (plainly s.counters)
 
   abbrev pub with_heading : Heading → Answer
-  with_heading h = with_counters (put_records h.records (put_mappings h.mappings s)) h.counters plainly
+  with_heading h = with_counters (put_records h.records (put_mappings h.mappings s)) (plainly h.counters)
 
   abbrev pub with_clearing : Clearing → Answer
-  with_clearing cleared = with_counters (put_mappings cleared.mappings s) cleared.counters plainly
+  with_clearing cleared = with_counters (put_mappings cleared.mappings s) (plainly cleared.counters)
 
   abbrev pub with_var_mark : VarMark → Answer
   with_var_mark m =
       with_counters
       (put_records m.records (put_mappings m.mappings (put_freed_slots m.list (put_branches m.rows m.branch_sets s))))
-      m.marked.reached.counters
       (by_mark m.marked)
 
   abbrev pub with_mark : MarkOf → Answer
-  with_mark m = with_counters (put_records m.records (put_mappings m.mappings s)) m.marked.reached.counters (by_mark m.marked)
+  with_mark m = with_counters (put_records m.records (put_mappings m.mappings s)) (by_mark m.marked)
 
   abbrev pub with_cut : CutOf → Answer
-  with_cut m = with_counters (put_records m.records s) m.marked.reached.counters (by_mark m.marked)
+  with_cut m = with_counters (put_records m.records s) (by_mark m.marked)
 
   abbrev pub with_counting : Counting → Answer
-  with_counting a = answer_of (put_records a.records s) (by_refusal a.refusal)
+  with_counting a = with_counters (put_records a.records s) (by_refusal s.counters a.refusal)
 
   abbrev pub with_release_of : ReleaseOf → Answer
-  with_release_of r = with_counters (put_records r.records (put_freed_slots r.list s)) r.released.counters (by_release r.released)
+  with_release_of r = with_counters (put_records r.records (put_freed_slots r.list s)) (by_release r.released)
 
   abbrev pub with_freed_register : Release → Answer
-  with_freed_register r = with_counters (put_freed_registers r.list s) r.released.counters (by_release r.released)
+  with_freed_register r = with_counters (put_freed_registers r.list s) (by_release r.released)
 
   abbrev pub with_stack : Stack → Answer
-  with_stack b = with_counters (put_branches b.rows b.sets s) b.released.counters (by_release b.released)
+  with_stack b = with_counters (put_branches b.rows b.sets s) (by_release b.released)
 
   abbrev pub with_branch_step : BranchStep → Answer
-  with_branch_step b = with_counters (put_records b.records (put_branches b.rows b.sets s)) b.released.counters (by_release b.released)
+  with_branch_step b = with_counters (put_records b.records (put_branches b.rows b.sets s)) (by_release b.released)
 
   -- ---- A line that nothing refused before, by its word: rules 5.6 to 5.27
 
@@ -128,14 +134,18 @@ module _ (s : State) where
 unfoldable pub seen_after : Counters → Event → Counters
 seen_after c event = if is_record event then c else with_events_seen 1 c
 
+-- what a line makes, with other counters
+abbrev pub acted_with : Counters → Answer → Acted
+acted_with c a = record { counters = c; code = a.code; at = a.at; refusal = a.refusal }
+
 abbrev pub acted_of : Answer → Acted
-acted_of a = record { code = a.code; at = a.at; refusal = a.refusal }
+acted_of a = acted_with a.state.counters a
 
 abbrev pub seen_in : Answer → Event → Answer
-seen_in a event = with_counters a.state (seen_after a.state.counters event) (acted_of a)
+seen_in a event = with_counters a.state (acted_with (seen_after a.state.counters event) a)
 
 unfoldable pub refused_with : State → Option Refusal → Answer
-refused_with s refusal = answer_of s (by_refusal refusal)
+refused_with s refusal = with_counters s (by_refusal s.counters refusal)
 
 -- how far a line comes: refused before it, or carried out
 unfoldable pub acted : State → Event → List ℕ → Answer

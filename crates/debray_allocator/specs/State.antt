@@ -40,11 +40,7 @@ fresh_state =
     (replicate (freed_slots * entry_cells) 0)
     (branch_tables (replicate (open_branches * numbers_per_branch) 0) (replicate (open_branches * sets_per_branch) 0))
 
--- ---- The counters or one table replaced, the others kept
-
-abbrev pub put_counters : Counters → State → State
-put_counters counters s =
-    state_of counters s.records s.sets s.mappings s.freed_registers s.freed_slots s.branches
+-- ---- One table replaced, the others kept
 
 -- a table that is one list has a number, its place among those, from 0; the table of that number becomes list
 abbrev pub with_table : ℕ → List ℕ → State → State

@@ -2,7 +2,7 @@
 #![tactic(auto)]
 
 ghost use Rattle.std.specs.Prelude.{◌≡◌};
-ghost use Rattle.debray_allocator.specs.State.{fresh_state};
+ghost use Rattle.debray_allocator.specs.State.{state_of, fresh_state};
 ghost use Rattle.debray_allocator.specs.DebrayAllocator.{
   plainly,
   by_release,
@@ -43,10 +43,11 @@ pub struct State {
     pub branches: BranchStack,
 }
 
-// The outcome of a line, beside the state. A line of the answer tells the place, if the event has one. A struct and no Result,
-// since a refused line tells its instructions, too.
+// The outcome of a line, beside the tables. A line of the answer tells the place, if the event has one. A struct and no Result,
+// since a refused line tells its counters and its instructions, too.
 #[derive(Clone, Copy)]
 pub struct Acted {
+    pub counters: Counters,
     pub code: CodeDeque,
     pub at: Option<RegType>,
     pub refusal: Option<Refusal>,
@@ -85,162 +86,154 @@ pub fn fresh() -> State
     }
 }
 
-// An event that tells nothing but a refusal, if there is one.
-fn refused(refusal: Option<Refusal>) -> Acted
-    ensures { result ≡ by_refusal refusal }
+// An event that changes the state and tells nothing.
+fn plain(counters: Counters) -> Acted
+    ensures { result ≡ plainly counters }
+{
+    refused(counters, None)
+}
+
+// The same, or a refusal.
+fn refused(counters: Counters, refusal: Option<Refusal>) -> Acted
+    ensures { result ≡ by_refusal counters refusal }
 {
     Acted {
+        counters,
         code: CodeDeque::Empty,
         at: None,
         refusal,
     }
 }
 
-// An event that changes the state and tells nothing. The counters are kept, as in the two below.
-fn plain(counters: Counters, kept: &mut Counters) -> Acted
-    ensures value { result ≡ plainly }
-    ensures kept { kept.new ≡ counters }
+// The same, with counters.
+fn released(released: Released) -> Acted
+    ensures { result ≡ by_release released }
 {
-    *kept = counters;
-    refused(None)
-}
-
-// The same, or a refusal.
-fn released(released: Released, kept: &mut Counters) -> Acted
-    ensures value { result ≡ by_release released }
-    ensures kept { kept.new ≡ released.counters }
-{
-    *kept = released.counters;
-    refused(released.refusal)
+    let counters = released.counters;
+    refused(counters, released.refusal)
 }
 
 // A mark tells its instructions and a place.
-fn marked(marked: Marked, kept: &mut Counters) -> Acted
-    ensures value { result ≡ by_mark marked }
-    ensures kept { kept.new ≡ marked.reached.counters }
+fn marked(marked: Marked) -> Acted
+    ensures { result ≡ by_mark marked }
 {
     let reached = marked.reached;
+    let counters = reached.counters;
     let code = reached.code;
     let place = marked.place;
-    *kept = reached.counters;
     Acted {
+        counters,
         code,
         at: Some(place),
         refusal: reached.refusal,
     }
 }
 
-// Carries out a line that nothing refused before. How far the state came is seen also where it is refused now.
-fn carry_out(state: &mut State, event: Event, list: &[u32]) -> Acted
-    ensures { answer_of state.new result ≡ carried_out state.old event list.now }
+// Carries out a line that nothing refused before. How far the tables came is seen also where it is refused now.
+fn carry_out(
+    counters: Counters,
+    records: &mut Records,
+    sets: &mut VariableSets,
+    mappings: &mut Mappings,
+    freed_registers: &mut TempFreeList,
+    freed_slots: &mut PermFreeList,
+    branches: &mut BranchStack,
+    event: Event,
+    list: &[u32],
+) -> Acted
+    ensures { answer_of records.new sets.new mappings.new freed_registers.new freed_slots.new branches.new result ≡ carried_out (state_of counters records.old sets.old mappings.old freed_registers.old freed_slots.old branches.old) event list.now }
 {
-    let State {
-        counters,
-        records,
-        sets,
-        mappings,
-        freed_registers,
-        freed_slots,
-        branches,
-    } = state;
     match event {
-        Event::Temp(context, occurrences) => released(
-            clause_records::add_temp(*counters, records, sets, context, occurrences, list),
+        Event::Temp(context, occurrences) => released(clause_records::add_temp(
             counters,
-        ),
-        Event::Perm(occurrences) => released(
-            clause_records::add_perm(*counters, records, sets, occurrences),
-            counters,
-        ),
-        Event::Sets => {
-            clause_records::populate(*counters, records, sets);
-            refused(None)
+            records,
+            sets,
+            context,
+            occurrences,
+            list,
+        )),
+        Event::Perm(occurrences) => {
+            released(clause_records::add_perm(counters, records, sets, occurrences))
         }
-        Event::Head => plain(
-            resets::reset_at_head(*counters, records, mappings, list),
+        Event::Sets => {
+            clause_records::populate(counters, records, sets);
+            plain(counters)
+        }
+        Event::Head => plain(resets::reset_at_head(counters, records, mappings, list)),
+        Event::Args(arity) => plain(resets::reset_arg(counters, arity)),
+        Event::Var(target, level, context, variable) => marked(mark_var::mark_var(
             counters,
-        ),
-        Event::Args(arity) => plain(resets::reset_arg(*counters, arity), counters),
-        Event::Var(target, level, context, variable) => marked(
-            mark_var::mark_var(
-                *counters,
-                records,
-                mappings,
-                sets,
-                freed_slots,
-                branches,
-                Mark {
-                    target,
-                    level,
-                    context,
-                    variable,
-                },
-            ),
-            counters,
-        ),
-        Event::Anon(target, level, context) => marked(
-            other_marks::mark_anon_var(
-                *counters,
-                records,
-                mappings,
-                sets,
-                freed_registers,
+            records,
+            mappings,
+            sets,
+            freed_slots,
+            branches,
+            Mark {
                 target,
                 level,
                 context,
-            ),
+                variable,
+            },
+        )),
+        Event::Anon(target, level, context) => marked(other_marks::mark_anon_var(
             counters,
-        ),
-        Event::NonVar(level, context, cell) => marked(
-            other_marks::mark_non_var(
-                *counters,
-                records,
-                mappings,
-                sets,
-                freed_registers,
-                level,
-                context,
-                cell,
-            ),
-            counters,
-        ),
-        Event::Cut(v, chunk) => marked(
-            other_marks::mark_cut_var(*counters, records, freed_slots, freed_registers, v, chunk),
-            counters,
-        ),
-        Event::Incr(v) => refused(resets::increment_running_count(records, v)),
-        Event::Free(chunk, v) => released(
-            freeing::free_var(*counters, records, freed_slots, chunk, v),
-            counters,
-        ),
-        Event::Safe(v) => refused(resets::mark_safe_var_unconditionally(
             records,
-            branches,
-            counters.open_branches,
+            mappings,
+            sets,
+            freed_registers,
+            target,
+            level,
+            context,
+        )),
+        Event::NonVar(level, context, cell) => marked(other_marks::mark_non_var(
+            counters,
+            records,
+            mappings,
+            sets,
+            freed_registers,
+            level,
+            context,
+            cell,
+        )),
+        Event::Cut(v, chunk) => marked(other_marks::mark_cut_var(
+            counters,
+            records,
+            freed_slots,
+            freed_registers,
+            v,
+            chunk,
+        )),
+        Event::Incr(v) => refused(counters, resets::increment_running_count(records, v)),
+        Event::Free(chunk, v) => released(freeing::free_var(
+            counters,
+            records,
+            freed_slots,
+            chunk,
             v,
         )),
-        Event::Give(r) => released(
-            resets::add_reg_to_free_list(*counters, freed_registers, r),
-            counters,
-        ),
-        Event::Tail(tail) => plain(resets::set_tail_position(*counters, tail), counters),
-        Event::Next => plain(resets::advance_arg(*counters), counters),
-        Event::Open(start, span, arms) => released(
-            branch_events::open(*counters, branches, start, span, arms),
-            counters,
-        ),
-        Event::Arm(start, span) => released(
-            branch_events::arm(*counters, branches, start, span),
-            counters,
-        ),
-        Event::Take => released(branch_events::take(*counters, records, branches), counters),
-        Event::Close(depth) => released(
-            branch_events::close(*counters, records, branches, depth, list),
-            counters,
-        ),
-        Event::Reset => plain(resets::reset(*counters, mappings), counters),
-        Event::Contents => plain(resets::reset_contents(*counters, mappings), counters),
-        Event::ClearFree => plain(resets::reset_free_list(*counters), counters),
+        Event::Safe(v) => {
+            let refusal = resets::mark_safe_var_unconditionally(
+                records,
+                branches,
+                counters.open_branches,
+                v,
+            );
+            refused(counters, refusal)
+        }
+        Event::Give(r) => released(resets::add_reg_to_free_list(counters, freed_registers, r)),
+        Event::Tail(tail) => plain(resets::set_tail_position(counters, tail)),
+        Event::Next => plain(resets::advance_arg(counters)),
+        Event::Open(start, span, arms) => {
+            released(branch_events::open(counters, branches, start, span, arms))
+        }
+        Event::Arm(start, span) => released(branch_events::arm(counters, branches, start, span)),
+        Event::Take => released(branch_events::take(counters, records, branches)),
+        Event::Close(depth) => released(branch_events::close(
+            counters, records, branches, depth, list,
+        )),
+        Event::Reset => plain(resets::reset(counters, mappings)),
+        Event::Contents => plain(resets::reset_contents(counters, mappings)),
+        Event::ClearFree => plain(resets::reset_free_list(counters)),
     }
 }
 
@@ -253,15 +246,35 @@ fn see(counters: &mut Counters, event: Event)
     }
 }
 
-// A line, over a state that is lent.
-pub fn act(state: &mut State, event: Event, list: &[u32]) -> Acted
-    ensures { answer_of state.new result ≡ acted state.old event list.now }
+// A line, over tables that are lent. The counters are not lent, since not each of their bytes holds a number.
+pub fn act(
+    counters: Counters,
+    records: &mut Records,
+    sets: &mut VariableSets,
+    mappings: &mut Mappings,
+    freed_registers: &mut TempFreeList,
+    freed_slots: &mut PermFreeList,
+    branches: &mut BranchStack,
+    event: Event,
+    list: &[u32],
+) -> Acted
+    ensures { answer_of records.new sets.new mappings.new freed_registers.new freed_slots.new branches.new result ≡ acted (state_of counters records.old sets.old mappings.old freed_registers.old freed_slots.old branches.old) event list.now }
 {
-    let refusal = events::refusal_before(state.counters, event, list);
+    let refusal = events::refusal_before(counters, event, list);
     if refusal.is_some() {
-        return refused(refusal);
+        return refused(counters, refusal);
     }
-    let carried = carry_out(state, event, list);
-    see(&mut state.counters, event);
+    let mut carried = carry_out(
+        counters,
+        records,
+        sets,
+        mappings,
+        freed_registers,
+        freed_slots,
+        branches,
+        event,
+        list,
+    );
+    see(&mut carried.counters, event);
     carried
 }

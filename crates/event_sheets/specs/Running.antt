@@ -9,14 +9,14 @@ use Rattle.event_lines.specs.LineForms.{Line}
 use Rattle.event_lines.specs.EventLines.{line_says, line_list}
 use Rattle.debray_allocator.specs.declared.State.{State}
 use Rattle.debray_allocator.specs.declared.Answer.{Answer}
-use Rattle.debray_allocator.specs.DebrayAllocator.{by_refusal, answer_of, acted}
+use Rattle.debray_allocator.specs.DebrayAllocator.{by_refusal, with_counters, acted}
 use Rattle.answers.specs.AnswersLaws.{longest}
 use Rattle.event_sheets.specs.declared.Run.{Run}
 use Rattle.event_sheets.specs.EventSheets.{Ran, refused_at, ran, sheet_ran}
 
--- how far a line gets, the state with it, also where it is refused
+-- how far a line gets, the tables with it, also where it is refused
 abbrev pub said_acted : State → Line → List ℕ → Answer
-said_acted s None list = answer_of s (by_refusal refused_form)
+said_acted s None list = with_counters s (by_refusal s.counters refused_form)
 said_acted s (Some said) list = acted s said.event list
 
 unfoldable pub line_acted : State → List ℕ → Answer

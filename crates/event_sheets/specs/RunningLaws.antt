@@ -19,7 +19,7 @@ use Rattle.debray_allocator.specs.declared.State.{State}
 use Rattle.debray_allocator.specs.declared.Acted.{Acted}
 use Rattle.debray_allocator.specs.declared.Answer.{Answer}
 use Rattle.debray_allocator.specs.State.{fresh_state}
-use Rattle.debray_allocator.specs.DebrayAllocator.{by_refusal, answer_of, refused_with, acted}
+use Rattle.debray_allocator.specs.DebrayAllocator.{by_refusal, with_counters, refused_with, acted}
 use Rattle.debray_allocator.specs.DebrayAllocatorLaws.{stepped-refused, stepped-accepted}
 use Rattle.answers.specs.declared.Adding.{Adding}
 use Rattle.answers.specs.Adding.{Added}
@@ -36,10 +36,10 @@ module _ (s : State) (line : List ℕ) where
       {said : Line} {a : Acted}
       → said ≡ line_says line
       → said ≡ None
-      → a ≡ by_refusal refused_form
-      → answer_of s a ≡ line_acted s line
+      → a ≡ by_refusal s.counters refused_form
+      → with_counters s a ≡ line_acted s line
   unfolding line_acted
-  line-malformed e m refused = ap (answer_of s) refused ∙ sym (ap (λ l. said_acted s l (line_list line)) (sym e ∙ m))
+  line-malformed e m refused = ap (with_counters s) refused ∙ sym (ap (λ l. said_acted s l (line_list line)) (sym e ∙ m))
 
   -- a line is carried out with the entries that were read
   pub line_said :

@@ -5,6 +5,7 @@ ghost use Rattle.std.specs.Prelude.{◌≡◌, ◌+◌, ◌*◌, ◌≤◌, leng
 ghost use Rattle.refusals.specs.Refusals.{refused_form};
 ghost use Rattle.sizes.specs.Sizes.{sheet_bytes};
 ghost use Rattle.printing.specs.Printing.{printed};
+ghost use Rattle.debray_allocator.specs.State.{state_of};
 ghost use Rattle.debray_allocator.specs.DebrayAllocator.{answer_of, by_refusal};
 ghost use Rattle.answers.specs.AnswersLaws.{longest};
 ghost use Rattle.event_sheets.specs.EventSheets.{
@@ -17,14 +18,20 @@ ghost use Rattle.event_sheets.specs.EventSheets.{
 };
 ghost use Rattle.event_sheets.specs.Running.{line_acted, whole_ran, told, told_behind};
 
+use allocation::TempFreeList;
 use allocator_state::Counters;
 use answered::{Answered, Refused};
 use answers::LONGEST;
+use branch_stack::BranchStack;
 use code_deque::CodeDeque;
-use debray_allocator::{Acted, State};
+use debray_allocator::Acted;
+use perm_free_list::PermFreeList;
 use refusals::Refusal;
+use restricting_sets::VariableSets;
+use shallow_temp_mappings::Mappings;
 use sizes::SHEET_BYTES;
 use split::LINE_FEED;
+use variable_records::Records;
 
 // A sheet of at most so many bytes is small, and the list of its lines' entries is as long.
 const SMALL_SHEET: usize = 512;
@@ -44,10 +51,11 @@ pub struct Run {
 }
 
 // A line that has no form changes nothing.
-fn malformed() -> Acted
-    ensures { result ≡ by_refusal refused_form }
+fn malformed(counters: Counters) -> Acted
+    ensures { result ≡ by_refusal counters refused_form }
 {
     Acted {
+        counters,
         code: CodeDeque::Empty,
         at: None,
         refusal: Some(Refusal::Form),
@@ -65,13 +73,33 @@ fn entries_of(list: &[u32], count: usize) -> &[u32]
 }
 
 // Reads a line and carries it out. A line has no more entries than bytes, so that a list as long as the line has room.
-fn carry_line(state: &mut State, list: &mut [u32], line: &[u8]) -> Acted
+fn carry_line(
+    counters: Counters,
+    records: &mut Records,
+    sets: &mut VariableSets,
+    mappings: &mut Mappings,
+    freed_registers: &mut TempFreeList,
+    freed_slots: &mut PermFreeList,
+    branches: &mut BranchStack,
+    list: &mut [u32],
+    line: &[u8],
+) -> Acted
     requires { length line.now ≤ length list.old }
-    ensures { answer_of state.new result ≡ line_acted state.old line.now }
+    ensures { answer_of records.new sets.new mappings.new freed_registers.new freed_slots.new branches.new result ≡ line_acted (state_of counters records.old sets.old mappings.old freed_registers.old freed_slots.old branches.old) line.now }
 {
     match event_lines::read_line(line, list) {
-        None => malformed(),
-        Some(said) => debray_allocator::act(state, said.event, entries_of(list, said.entries)),
+        None => malformed(counters),
+        Some(said) => debray_allocator::act(
+            counters,
+            records,
+            sets,
+            mappings,
+            freed_registers,
+            freed_slots,
+            branches,
+            said.event,
+            entries_of(list, said.entries),
+        ),
     }
 }
 
@@ -136,7 +164,17 @@ fn run_lines(sheet: &[u8], list: &mut [u32], out: &mut [u8], from: usize) -> Run
     let mut end = split::end_of(rest, LINE_FEED);
     // What is left behind a line is handed on as a part that starts in the middle.
     while end < rest.len() {
-        let acted = carry_line(&mut state, list, split::part_before(rest, end));
+        let acted = carry_line(
+            state.counters,
+            &mut state.records,
+            &mut state.sets,
+            &mut state.mappings,
+            &mut state.freed_registers,
+            &mut state.freed_slots,
+            &mut state.branches,
+            list,
+            split::part_before(rest, end),
+        );
         if acted.refusal.is_some() {
             return Run {
                 line: number,
@@ -144,6 +182,7 @@ fn run_lines(sheet: &[u8], list: &mut [u32], out: &mut [u8], from: usize) -> Run
                 length,
             };
         }
+        state.counters = acted.counters;
         let code = acted.code;
         let place = acted.at;
         let adding = answers::add_answer(&mut scratch, out, at, code, place);

@@ -8,6 +8,7 @@ use Rattle.printing.specs.PrintingLaws.{put_unique}
 use Rattle.temp_var_data.specs.Uses.{UseAdded}
 use Rattle.restricting_sets.specs.declared.VariableSets.{VariableSets}
 use Rattle.restricting_sets.specs.Restricting.{sets as variable_sets, Populated}
+use Rattle.branch_stack.specs.declared.BranchStack.{BranchStack}
 use Rattle.allocator_state.specs.declared.Counters.{Counters}
 use Rattle.evacuation.specs.declared.Reached.{Reached}
 use Rattle.evacuation.specs.Evacuation.{Evacuation, evacuation}
@@ -24,7 +25,6 @@ use Rattle.other_marks.specs.OtherMarks.{MarkOf, mark_of, CutOf, cut_of}
 use Rattle.resets.specs.Resets.{Heading, heading, Clearing, clearing, Answer, answer}
 use Rattle.clause_records.specs.ClauseRecords.{rows, Recording, recording}
 use Rattle.branch_events.specs.BranchEvents.{Stack, stack_of, BranchStep, branch_of}
-use Rattle.debray_allocator.specs.declared.State.{State}
 use Rattle.debray_allocator.specs.declared.Acted.{Acted}
 use Rattle.debray_allocator.specs.declared.Answer.{Answer as StepAnswer}
 use Rattle.debray_allocator.specs.DebrayAllocator.{answer_of, acted_of}
@@ -202,14 +202,23 @@ var_mark_unique x y = (
   no_second_part (λ (m : VarMark). m.marked) x y,
 )
 
--- ---- The whole state, and a result of several parts
+-- ---- Every table, and a result of several parts
 
 -- `debray_allocator`: act
 pub answer_of_unique :
-    {s s' : State} {r r' : Acted} {meaning : StepAnswer}
-    → answer_of s r ≡ meaning → answer_of s' r' ≡ meaning → (s ≡ s') × (r ≡ r')
+    {records records' mappings mappings' freed_registers freed_registers' freed_slots freed_slots' : List ℕ}
+    {sets sets' : VariableSets} {branches branches' : BranchStack} {r r' : Acted} {meaning : StepAnswer}
+    → answer_of records sets mappings freed_registers freed_slots branches r ≡ meaning
+    → answer_of records' sets' mappings' freed_registers' freed_slots' branches' r' ≡ meaning
+    → (records ≡ records') × (sets ≡ sets') × (mappings ≡ mappings') × (freed_registers ≡ freed_registers')
+    × (freed_slots ≡ freed_slots') × (branches ≡ branches') × (r ≡ r')
 answer_of_unique x y = (
-  no_second_part (λ (a : StepAnswer). a.state) x y,
+  no_second_part (λ (a : StepAnswer). a.state.records) x y,
+  no_second_part (λ (a : StepAnswer). a.state.sets) x y,
+  no_second_part (λ (a : StepAnswer). a.state.mappings) x y,
+  no_second_part (λ (a : StepAnswer). a.state.freed_registers) x y,
+  no_second_part (λ (a : StepAnswer). a.state.freed_slots) x y,
+  no_second_part (λ (a : StepAnswer). a.state.branches) x y,
   no_second_part acted_of x y,
 )
 

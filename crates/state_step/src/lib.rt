@@ -13,7 +13,17 @@ pub fn step(state: State, event: Event, list: &[u32]) -> Answer
     ensures { result ≡ stepped state event list.now }
 {
     let mut after = state;
-    let acted = debray_allocator::act(&mut after, event, list);
+    let acted = debray_allocator::act(
+        after.counters,
+        &mut after.records,
+        &mut after.sets,
+        &mut after.mappings,
+        &mut after.freed_registers,
+        &mut after.freed_slots,
+        &mut after.branches,
+        event,
+        list,
+    );
     if acted.refusal.is_some() {
         return Answer {
             state,
@@ -22,6 +32,7 @@ pub fn step(state: State, event: Event, list: &[u32]) -> Answer
             refusal: acted.refusal,
         };
     }
+    after.counters = acted.counters;
     let code = acted.code;
     let at = acted.at;
     Answer {

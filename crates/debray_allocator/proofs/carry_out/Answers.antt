@@ -8,8 +8,7 @@ pub returns-in-Temp : goal.returns-in-Temp
 returns-in-Temp c =
     carried with_recording _ _ _ _ _ _ _ _
     c.in-Temp.is
-    c.released.ensures.kept
-    c.released.ensures.value
+    c.released.ensures
     c.add_temp.ensures
     refl
     refl
@@ -18,8 +17,7 @@ pub returns-in-Perm : goal.returns-in-Perm
 returns-in-Perm c =
     carried with_recording _ _ _ _ _ _ _ _
     c.in-Perm.is
-    c.released-in-Perm.ensures.kept
-    c.released-in-Perm.ensures.value
+    c.released-in-Perm.ensures
     c.add_perm.ensures
     refl
     refl
@@ -28,8 +26,7 @@ pub returns-in-Sets : goal.returns-in-Sets
 returns-in-Sets c =
     carried with_restricting _ _ _ _ _ _ _ _
     c.in-Sets.is
-    refl
-    c.refused.ensures
+    c.plain.ensures
     c.populate.ensures
     refl
     refl
@@ -38,8 +35,7 @@ pub returns-in-Head : goal.returns-in-Head
 returns-in-Head c =
     carried with_heading _ _ _ _ _ _ _ _
     c.in-Head.is
-    c.plain.ensures.kept
-    c.plain.ensures.value
+    c.plain-in-Head.ensures
     c.reset_at_head.ensures
     refl
     refl
@@ -48,8 +44,7 @@ pub returns-in-Args : goal.returns-in-Args
 returns-in-Args c =
     carried only_counters _ _ _ _ _ _ _ _
     c.in-Args.is
-    c.plain-in-Args.ensures.kept
-    c.plain-in-Args.ensures.value
+    c.plain-in-Args.ensures
     c.reset_arg.ensures
     refl
     refl
@@ -58,8 +53,7 @@ pub returns-in-Var : goal.returns-in-Var
 returns-in-Var c =
     carried with_var_mark _ _ _ _ _ _ _ _
     c.in-Var.is
-    c.marked.ensures.kept
-    c.marked.ensures.value
+    c.marked.ensures
     c.mark_var.ensures
     refl
     refl
@@ -68,8 +62,7 @@ pub returns-in-Anon : goal.returns-in-Anon
 returns-in-Anon c =
     carried with_mark _ _ _ _ _ _ _ _
     c.in-Anon.is
-    c.marked-in-Anon.ensures.kept
-    c.marked-in-Anon.ensures.value
+    c.marked-in-Anon.ensures
     c.mark_anon_var.ensures
     refl
     refl
@@ -78,8 +71,7 @@ pub returns-in-NonVar : goal.returns-in-NonVar
 returns-in-NonVar c =
     carried with_mark _ _ _ _ _ _ _ _
     c.in-NonVar.is
-    c.marked-in-NonVar.ensures.kept
-    c.marked-in-NonVar.ensures.value
+    c.marked-in-NonVar.ensures
     c.mark_non_var.ensures
     refl
     refl
@@ -88,8 +80,7 @@ pub returns-in-Cut : goal.returns-in-Cut
 returns-in-Cut c =
     carried with_cut _ _ _ _ _ _ _ _
     c.in-Cut.is
-    c.marked-in-Cut.ensures.kept
-    c.marked-in-Cut.ensures.value
+    c.marked-in-Cut.ensures
     c.mark_cut_var.ensures
     refl
     refl
@@ -98,8 +89,7 @@ pub returns-in-Incr : goal.returns-in-Incr
 returns-in-Incr c =
     carried with_counting _ _ _ _ _ _ _ _
     c.in-Incr.is
-    refl
-    c.refused-in-Incr.ensures
+    c.refused.ensures
     c.increment_running_count.ensures
     refl
     refl
@@ -108,8 +98,7 @@ pub returns-in-Free : goal.returns-in-Free
 returns-in-Free c =
     carried with_release_of _ _ _ _ _ _ _ _
     c.in-Free.is
-    c.released-in-Free.ensures.kept
-    c.released-in-Free.ensures.value
+    c.released-in-Free.ensures
     c.free_var.ensures
     refl
     refl
@@ -118,9 +107,8 @@ pub returns-in-Safe : goal.returns-in-Safe
 returns-in-Safe c =
     carried with_counting _ _ _ _ _ _ _ _
     c.in-Safe.is
-    refl
     c.refused-in-Safe.ensures
-    c.mark_safe_var_unconditionally.ensures
+    c.mark_safe_var_unconditionally-refusal.ensures
     refl
     refl
 
@@ -128,8 +116,7 @@ pub returns-in-Give : goal.returns-in-Give
 returns-in-Give c =
     carried with_freed_register _ _ _ _ _ _ _ _
     c.in-Give.is
-    c.released-in-Give.ensures.kept
-    c.released-in-Give.ensures.value
+    c.released-in-Give.ensures
     c.add_reg_to_free_list.ensures
     refl
     refl
@@ -138,8 +125,7 @@ pub returns-in-Tail : goal.returns-in-Tail
 returns-in-Tail c =
     carried only_counters _ _ _ _ _ _ _ _
     c.in-Tail.is
-    c.plain-in-Tail.ensures.kept
-    c.plain-in-Tail.ensures.value
+    c.plain-in-Tail.ensures
     c.set_tail_position.ensures
     refl
     refl
@@ -148,8 +134,7 @@ pub returns-in-Next : goal.returns-in-Next
 returns-in-Next c =
     carried only_counters _ _ _ _ _ _ _ _
     c.in-Next.is
-    c.plain-in-Next.ensures.kept
-    c.plain-in-Next.ensures.value
+    c.plain-in-Next.ensures
     c.advance_arg.ensures
     refl
     refl
@@ -158,8 +143,7 @@ pub returns-in-Open : goal.returns-in-Open
 returns-in-Open c =
     carried with_stack _ _ _ _ _ _ _ _
     c.in-Open.is
-    c.released-in-Open.ensures.kept
-    c.released-in-Open.ensures.value
+    c.released-in-Open.ensures
     c.«open».ensures
     refl
     refl
@@ -168,8 +152,7 @@ pub returns-in-Arm : goal.returns-in-Arm
 returns-in-Arm c =
     carried with_stack _ _ _ _ _ _ _ _
     c.in-Arm.is
-    c.released-in-Arm.ensures.kept
-    c.released-in-Arm.ensures.value
+    c.released-in-Arm.ensures
     c.arm.ensures
     refl
     refl
@@ -178,8 +161,7 @@ pub returns-in-Take : goal.returns-in-Take
 returns-in-Take c =
     carried with_branch_step _ _ _ _ _ _ _ _
     c.in-Take.is
-    c.released-in-Take.ensures.kept
-    c.released-in-Take.ensures.value
+    c.released-in-Take.ensures
     c.take.ensures
     refl
     refl
@@ -188,8 +170,7 @@ pub returns-in-Close : goal.returns-in-Close
 returns-in-Close c =
     carried with_branch_step _ _ _ _ _ _ _ _
     c.in-Close.is
-    c.released-in-Close.ensures.kept
-    c.released-in-Close.ensures.value
+    c.released-in-Close.ensures
     c.close.ensures
     refl
     refl
@@ -198,8 +179,7 @@ pub returns-in-Reset : goal.returns-in-Reset
 returns-in-Reset c =
     carried with_clearing _ _ _ _ _ _ _ _
     c.in-Reset.is
-    c.plain-in-Reset.ensures.kept
-    c.plain-in-Reset.ensures.value
+    c.plain-in-Reset.ensures
     c.reset.ensures
     refl
     refl
@@ -208,8 +188,7 @@ pub returns-in-Contents : goal.returns-in-Contents
 returns-in-Contents c =
     carried with_clearing _ _ _ _ _ _ _ _
     c.in-Contents.is
-    c.plain-in-Contents.ensures.kept
-    c.plain-in-Contents.ensures.value
+    c.plain-in-Contents.ensures
     c.reset_contents.ensures
     refl
     refl
@@ -218,8 +197,7 @@ pub returns-in-ClearFree : goal.returns-in-ClearFree
 returns-in-ClearFree c =
     carried only_counters _ _ _ _ _ _ _ _
     c.in-ClearFree.is
-    c.plain-in-ClearFree.ensures.kept
-    c.plain-in-ClearFree.ensures.value
+    c.plain-in-ClearFree.ensures
     c.reset_free_list.ensures
     refl
     refl
