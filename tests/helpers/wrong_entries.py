@@ -5,7 +5,7 @@ A file of tests/wrong holds entries, separated by empty lines. Its lines: `fn` a
 answer; `in:` and the private function that is changed, where it is another; `program:` and which wrong program of rule
 25.8 it is, where it is one; then either `must-fail:` and the edit of the merge gate that is this wrong answer, or `old:`
 and `new:`, a text that occurs once in the function and what takes its place. A text may go on below its word, its lines as
-they stand in the code.
+they stand in the code. An edit that leaves every answer right, and only takes longer, says so in `costs:`, and is not run.
 
 What the wrong answer is run on stands in one of these: `sheet:`, one with a known end, as `6` for rule 24.6, or `10.3` for
 the third row of rule 24.10 in the table of known_sheets; `event:`, `bundle:` or `check:`, a sheet and behind `=>` its answer,
@@ -37,7 +37,7 @@ FUNCTION = re.compile(r'^( *)(pub )?(?:extern "C" )?fn (\w+)')
 IMPLEMENTATION = re.compile(r"^impl\b([^{]* for)? (\w+) \{")
 COMMENT_OR_SPACE = re.compile(r"//.*|\s")
 ROWS = re.compile(r'(-- (\d+)\n)?    (?:∷ )?(?:(event|check)_sheet "(.*)" "(.*)"|no_use|conflict)')
-WORDS = {"fn": "function", "in": "place", "must-fail": "must_fail", "says": "says", "program": "program"}
+WORDS = {"fn": "function", "in": "place", "must-fail": "must_fail", "says": "says", "program": "program", "costs": "costs"}
 OTHER_WORDS = ("old", "new", "sheet", "event", "bundle", "check", "state", "main", "prints")
 # What the prover's first error means. Only the first two name a fact that does not fit.
 MEANINGS = {
@@ -72,6 +72,7 @@ class Answer:
     place: str = ""
     program: str = ""
     must_fail: str = ""
+    costs: str = ""
     pairs: list = dataclasses.field(default_factory=list)
     run: Run | None = None
     refused: str = ""
