@@ -74,8 +74,8 @@ fn run_lines(sheet: &[u8]) -> Result<bool, Refused>
     requires { length sheet.now ≤ sheet_bytes }
     ensures { result ≡ run_of (reading sheet.now) }
 {
-    let mut symbols = symbolic::NOTHING;
-    symbolic::begin(&mut symbols);
+    let mut symbols = symbolic::nothing();
+    symbols.doing.places = symbolic::fresh_places();
     let mut order = steps::fresh_order();
     let mut number = 1;
     let mut rest = sheet;

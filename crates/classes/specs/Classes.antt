@@ -9,6 +9,12 @@ use Rattle.sizes.specs.Sizes.{steps}
 abbrev pub names : ℕ
 names = 3 * (steps + 1)
 
+-- numbers taken two at a time; a lone last one is left out
+unfoldable pub pairs_of : List ℕ → List (ℕ × ℕ)
+pairs_of [] = []
+pairs_of (x ∷ []) = []
+pairs_of (x ∷ (y ∷ rest)) = (x, y) ∷ pairs_of rest
+
 -- whether both numbers of a pair are names, and those of all pairs
 unfoldable pub both_names : ℕ → ℕ → Bool
 both_names x y = ltb x names && ltb y names

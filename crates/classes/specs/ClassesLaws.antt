@@ -1,18 +1,20 @@
 -- Laws of classes: how long labels are, what a name's label is after a pair, and pairs one at a time.
-use Prim.Native.Nat.{ℕ, zero, suc, ◌≤◌, ◌<◌, min, max}
-use Rattle.std.specs.Prelude.{◌≡◌, refl, Bool, true, false, ◌&&◌, List, [], ◌∷◌, ◌++◌, map, ◌⊎◌, eqb, get_or}
-use Rattle.std.proofs.Common.{sym, ap, ◌∙◌, inl, inr, lt-ltb, le-ltb, ltb-true, eq-eqb, ne_eqb}
+use Prim.Native.Nat.{ℕ, zero, suc, ◌+◌, ◌≤◌, ◌<◌, min, max}
+use Rattle.std.specs.Prelude.{◌≡◌, refl, Bool, true, false, ◌&&◌, List, [], ◌∷◌, ◌++◌, map, ◌⊎◌, eqb, get_or, drop}
+use Rattle.std.proofs.Common.{sym, ap, ◌∙◌, inl, inr, add-one, lt-ltb, le-ltb, ltb-true, eq-eqb, ne_eqb}
 use Rattle.std.proofs.Math.Bool.{and_assoc, and-false}
 use Rattle.std.proofs.Math.Logic.{⊎_elim}
+use Rattle.std.proofs.Math.Numerals.{add-two}
 use native.Mathlib.Omega.{arith}
-use Rattle.std.proofs.Math.ListN.{length, get_or-map, get_or-eq_default}
+use Rattle.std.proofs.Math.ListN.{length, get_or-map, get_or-eq_default, drop_of_length-le}
 use Rattle.std.proofs.lemmas.List.{length-map}
+use Rattle.std.proofs.Math.Seq.{drop-cons}
 use Rattle.std.proofs.lemmas.List.Folds.{list_all-append}
 use Rattle.std.specs.Prelude.{if◌then◌else◌}
 use Rattle.notation.specs.ChoiceLaws.{both_true}
 use Rattle.notation.specs.ListLaws.{length_numbers, get_or_numbers}
 use Rattle.classes.specs.Cases.{true_or_false, less_or_not, same_or_not}
-use Rattle.classes.specs.Classes.{names, both_names, in_names, label_of, exchanged, joined, labels_after, own_labels, labelling, is_same, all_same}
+use Rattle.classes.specs.Classes.{names, pairs_of, both_names, in_names, label_of, exchanged, joined, labels_after, own_labels, labelling, is_same, all_same}
 
 -- ---- Tests
 
@@ -172,3 +174,51 @@ unfolding in_names
 names_append [] qs = refl
 names_append ((x, y) ∷ ps) qs =
     ap (λ (b : Bool). both_names x y && b) (names_append ps qs) ∙ sym (and_assoc (both_names x y) (in_names ps) (in_names qs))
+
+-- a flat list whose first part has no lone number
+pub pairs_append :
+    (n : ℕ) (front back : List ℕ) → length front ≡ n + n → pairs_of (front ++ back) ≡ pairs_of front ++ pairs_of back
+unfolding pairs_of
+pairs_append n [] back size = refl
+pairs_append n (x ∷ []) back size = absurd (omega arith)
+pairs_append zero (x ∷ (y ∷ front)) back size = absurd (omega arith)
+pairs_append (suc n) (x ∷ (y ∷ front)) back size =
+    ap (λ (ps : List (ℕ × ℕ)). (x, y) ∷ ps) (pairs_append n front back (omega arith))
+
+-- ---- Pairs of a list of numbers, one at a time, from entry i on
+
+module _ (numbers : List ℕ) (i : ℕ) where
+  pub pairs_next :
+      i + 1 < length numbers → pairs_of (drop i numbers) ≡ (get_or numbers i 0, get_or numbers (i + 1) 0) ∷ pairs_of (drop (i + 2) numbers)
+  unfolding pairs_of
+  pairs_next h =
+      let first : i < length numbers = omega arith in
+      let second : suc i < length numbers = omega arith in
+      rw (add-one i, add-two i, drop-cons numbers i 0 first, drop-cons numbers (suc i) 0 second)
+
+  pub pairs_end : length numbers ≤ i + 1 → pairs_of (drop i numbers) ≡ []
+  unfolding pairs_of
+  pairs_end h =
+      let past : length numbers ≤ suc i = omega arith in
+      ⊎_elim
+      (λ one. rw (drop-cons numbers i 0 one, drop_of_length-le numbers {i = suc i} past))
+      (λ none. rw (drop_of_length-le numbers {i = i} none))
+      (less_or_not i (length numbers))
+
+-- the test of all pairs, one at a time
+module _ (labels numbers : List ℕ) (i : ℕ) where
+  pub same_apart :
+      i + 1 < length numbers → (label_of labels (get_or numbers i 0) ≡ label_of labels (get_or numbers (i + 1) 0) → ⊥)
+      → all_same labels (pairs_of (drop i numbers)) ≡ false
+  unfolding all_same
+  same_apart h e = rw (pairs_next numbers i h) (simp (ne_eqb _ _ e))
+
+  pub same_on :
+      i + 1 < length numbers → label_of labels (get_or numbers i 0) ≡ label_of labels (get_or numbers (i + 1) 0)
+      → all_same labels (pairs_of (drop i numbers)) ≡ all_same labels (pairs_of (drop (i + 2) numbers))
+  unfolding all_same
+  same_on h e = rw (pairs_next numbers i h) (simp (eq-eqb _ _ e))
+
+  pub same-done : length numbers ≤ i + 1 → all_same labels (pairs_of (drop i numbers)) ≡ true
+  unfolding all_same
+  same-done h = rw (pairs_end numbers i h)

@@ -17,11 +17,13 @@ pub record Rooted (parents labels : List ℕ) : Type 0 where
 -- a walk from x found r, a name: whatever the labels were, they stayed, and r is that of x
 pub record Found (before : List ℕ) (x : ℕ) (after : List ℕ) (r : ℕ) : Type 0 where
   pub name : r < names
+  pub falling : Falling after
   pub rooted : (labels : List ℕ) → Rooted before labels → Rooted after labels
   pub found : (labels : List ℕ) → Rooted before labels → r ≡ label_of labels x
 
 -- whatever the labels were, they are now those after a step
 pub record Became (step : List ℕ → List ℕ) (before after : List ℕ) : Type 0 where
+  pub falling : Falling after
   pub rooted : (labels : List ℕ) → Rooted before labels → Rooted after (step labels)
 
 -- whatever the labels were, the table is now those

@@ -95,6 +95,7 @@ module _ (before : List ℕ) (x : ℕ) (parents : List ℕ) (name parent : ℕ) 
       let top : get_or parents name 0 ≡ name = omega (arith, w.up, w.falling.below name w.inside) in
       record {
         name = w.inside;
+        falling = w.falling;
         rooted = w.rooted;
         found = λ labels start. sym ((w.rooted labels start).root name w.inside top) ∙ w.label labels start;
       }
@@ -172,27 +173,30 @@ module _ (parents labels : List ℕ) (falling : Falling parents) (rooted : Roote
       (linked_rooted parents labels falling rooted a b ha order first-settled second-settled)
 
 -- both labels found, then the link
-module _ (before between after : List ℕ) (x y a b : ℕ) (hx : x < names) (hy : y < names) (first : Found before x between a) (second : Found between y after b) (falling : Falling after) where
+module _ (before between after : List ℕ) (x y a b : ℕ) (hx : x < names) (hy : y < names) (first : Found before x between a) (second : Found between y after b) where
   pub second-joined : a ≤ b → Became (λ labels. joined labels x y) before (set after b a)
   second-joined order =
       record {
+        falling = put_falling after second.falling b a second.name order;
         rooted = λ labels rooted.
             (let kept = first.rooted labels rooted in
-            second_linked after labels falling (second.rooted labels kept) x y a b hx hy first.name second.name (first.found labels rooted) (second.found labels kept) order);
+            second_linked after labels second.falling (second.rooted labels kept) x y a b hx hy first.name second.name (first.found labels rooted) (second.found labels kept) order);
       }
 
   pub first-joined : b ≤ a → Became (λ labels. joined labels x y) before (set after a b)
   first-joined order =
       record {
+        falling = put_falling after second.falling a b first.name order;
         rooted = λ labels rooted.
             (let kept = first.rooted labels rooted in
-            first_linked after labels falling (second.rooted labels kept) x y a b hx hy first.name second.name (first.found labels rooted) (second.found labels kept) order);
+            first_linked after labels second.falling (second.rooted labels kept) x y a b hx hy first.name second.name (first.found labels rooted) (second.found labels kept) order);
       }
 
 -- a pair with a number that is no name
 pub unlinked :
-    (parents : List ℕ) (x y : ℕ) → both_names x y ≡ false → Became (λ labels. joined labels x y) parents parents
-unlinked parents x y e = record { rooted = λ labels rooted. rw (joined-none labels x y e) rooted }
+    (parents : List ℕ) → Falling parents → (x y : ℕ) → both_names x y ≡ false → Became (λ labels. joined labels x y) parents parents
+unlinked parents falling x y e =
+    record { falling = falling; rooted = λ labels rooted. rw (joined-none labels x y e) rooted }
 
 -- ---- Pair after pair
 
@@ -201,6 +205,10 @@ pub record Toward (end : List ℕ) (left : List (ℕ × ℕ)) (parents : List �
   pub labels : List ℕ
   pub rooted : Rooted parents labels
   pub leads : labels_after labels left ≡ end
+
+pub toward_start :
+    (labels parents : List ℕ) (pairs : List (ℕ × ℕ)) → Rooted parents labels → Toward (labels_after labels pairs) pairs parents
+toward_start labels parents pairs rooted = record { labels = labels; rooted = rooted; leads = refl }
 
 pub toward_next :
     (end : List ℕ) (x y : ℕ) (left : List (ℕ × ℕ)) (before after : List ℕ) → Toward end ((x, y) ∷ left) before
@@ -233,6 +241,9 @@ pub record Passed (before parents : List ℕ) (x : ℕ) : Type 0 where
   pub rooted : (labels : List ℕ) → Rooted before labels → Rooted parents labels
   pub flat : (labels : List ℕ) → Rooted before labels → (z : ℕ) → z < x → get_or parents z 0 ≡ label_of labels z
 
+pub passed_start : (parents : List ℕ) → Falling parents → Passed parents parents 0
+passed_start parents falling = record { falling = falling; rooted = λ _ rooted. rooted; flat = λ _ _ z low. absurd (omega arith) }
+
 module _ (before parents : List ℕ) (x : ℕ) (p : Passed before parents x) where
   pub passed_next : x < names → Passed before (set parents x (get_or parents (get_or parents x 0) 0)) (suc x)
   passed_next inside =
@@ -249,6 +260,12 @@ module _ (before parents : List ℕ) (x : ℕ) (p : Passed before parents x) whe
       ext_get_or 0 parents labels (long ∙ sym size) (λ z h. p.flat labels start z (omega arith) ∙ label_in labels z (omega arith))
 
 -- ---- Each name in a class of its own
+
+pub own-next :
+    (table : List ℕ) (x : ℕ) → length table ≡ names → x < names → ((z : ℕ) → z < x → get_or table z 0 ≡ z)
+    → (z : ℕ) → z < suc x → get_or (set table x x) z 0 ≡ z
+own-next table x size inside own z h =
+    set-each (λ w n. w < suc x → n ≡ w) table x x (omega arith) (λ _. refl) (λ w _ apart low. own w (omega arith)) z (omega arith) h
 
 pub own-end : (table : List ℕ) (x : ℕ) → length table ≡ names → names ≤ x → ((z : ℕ) → z < x → get_or table z 0 ≡ z) → table ≡ own_labels
 own-end table x size past own = ext_get_or 0 table own_labels (size ∙ sym length-own) (λ z h. own z (omega arith) ∙ sym (own_at z (omega arith)))

@@ -1,9 +1,10 @@
-// Which names a list of equalities makes equal: each name is labelled with the least name of its class. A pair with a number that
-// is no name makes nothing equal, and such a number is its own label.
+// Which names a list of equalities makes equal: each name is labelled with the least name of its class. The list is flat, two
+// numbers a pair; a lone last number is left out. A number that is no name is its own label, and a pair with one makes nothing
+// equal.
 #![tactic(auto)]
 
 ghost use Rattle.std.specs.Prelude.{ℕ, ◌≡◌, ◌<◌, List, replicate};
-ghost use Rattle.classes.specs.Classes.{names, label_of, joined, labels_after, own_labels, labelling, all_same};
+ghost use Rattle.classes.specs.Classes.{names, pairs_of, label_of, joined, labels_after, own_labels, labelling, all_same};
 ghost use Rattle.classes.specs.Parents.{Falling, Found, Became, Flattened};
 
 use sizes::STEPS;
@@ -12,31 +13,38 @@ use std::marker::Model;
 // Names that equalities can speak of, numbered from 0: three for each step, and three more.
 pub const NAMES: usize = 3 * (STEPS + 1);
 
-// Of each name its label, the least name of its class; or, while pairs are joined, its parent: a name of its class that is not
-// above it.
-#[derive(Clone, Copy)]
-pub struct Labels {
-    parents: [u32; NAMES],
+// Of each name its label, the least name of its class.
+pub type Labels = [u32; NAMES];
+
+// Room for labels.
+pub fn room() -> Labels
+    ensures { result ≡ replicate names 0 }
+{
+    [0; NAMES]
 }
 
-impl Model for Labels {
+// The classes while pairs are joined: of each name its parent, a name of its class that is not above it.
+#[derive(Drop)]
+struct Parents {
+    parents: Labels,
+}
+
+impl Model for Parents {
     ghost Value = { List ℕ };
 
-    ghost view = { λ labels. labels.parents };
+    ghost view = { λ table. table.parents };
 
-    ghost invariant = { λ labels. Falling labels.parents };
+    ghost invariant = { λ table. Falling table.parents };
 
     ghost inverse = { λ parents. record { parents = parents } };
 }
 
-impl Labels {
-    // Room for labels.
-    pub fn new() -> Labels
+impl Parents {
+    // Room for a parent of each name.
+    fn new() -> Parents
         ensures { result ≡ replicate names 0 }
     {
-        Labels {
-            parents: [0; NAMES],
-        }
+        Parents { parents: room() }
     }
 
     // Puts each name in a class of its own.
@@ -69,6 +77,8 @@ impl Labels {
     fn join(&mut self, x: u32, y: u32)
         ensures { Became (λ labels. joined labels x y) self.old self.new }
     {
+        // Looked at for what holds of every table, also where nothing is joined.
+        let _ = &self.parents;
         if NAMES as u32 <= x {
             return;
         }
@@ -84,12 +94,16 @@ impl Labels {
         self.parents[a as usize] = b;
     }
 
-    // Joins pair after pair.
-    fn join_all(&mut self, pairs: &[(u32, u32)])
-        ensures { Became (λ labels. labels_after labels pairs.now) self.old self.new }
+    // Joins pair after pair, two numbers at a time.
+    fn join_all(&mut self, pairs: &[u32])
+        ensures { Became (λ labels. labels_after labels (pairs_of pairs.now)) self.old self.new }
     {
-        for (x, y) in pairs {
-            self.join(*x, *y);
+        // Looked at for what holds of every table, also where nothing is joined.
+        let _ = &self.parents;
+        let mut i = 0;
+        while i + 1 < pairs.len() {
+            self.join(pairs[i], pairs[i + 1]);
+            i += 2;
         }
     }
 
@@ -102,31 +116,37 @@ impl Labels {
             self.parents[x] = self.parents[parent as usize];
         }
     }
+}
 
-    // Labels each name with the least name that the pairs make equal to it.
-    pub fn label(&mut self, pairs: &[(u32, u32)])
-        ensures { self.new ≡ labelling pairs.now }
-    {
-        self.fill();
-        self.join_all(pairs);
-        self.flatten();
-    }
+// Labels each name with the least name that the pairs make equal to it.
+pub fn label(labels: &mut Labels, pairs: &[u32])
+    ensures { labels.new ≡ labelling (pairs_of pairs.now) }
+{
+    let mut table = Parents::new();
+    table.fill();
+    table.join_all(pairs);
+    table.flatten();
+    *labels = table.parents;
+}
 
-    // The label of a name; a number that is no name is its own.
-    #[tactic(auto, unfolding(crate::specs::Classes::label_of))]
-    pub fn label_of(&self, x: u32) -> u32
-        ensures { result ≡ label_of self.now x }
-    {
-        self.parents.get(x as usize).copied().unwrap_or(x)
-    }
+// The label of a name; a number that is no name is its own.
+#[tactic(auto, unfolding(crate::specs::Classes::label_of))]
+pub fn label_of(labels: &Labels, x: u32) -> u32
+    ensures { result ≡ label_of labels.now x }
+{
+    labels.get(x as usize).copied().unwrap_or(x)
+}
 
-    // Whether all pairs have one label each.
-    #[tactic(auto, unfolding(crate::specs::Classes::all_same))]
-    pub fn all_same(&self, pairs: &[(u32, u32)]) -> bool
-        ensures { result ≡ all_same self.now pairs.now }
-    {
-        pairs
-            .iter()
-            .all(|(x, y)| self.label_of(*x) == self.label_of(*y))
+// Whether all pairs have one label each.
+pub fn all_same(labels: &Labels, pairs: &[u32]) -> bool
+    ensures { result ≡ all_same labels.now (pairs_of pairs.now) }
+{
+    let mut i = 0;
+    while i + 1 < pairs.len() {
+        if label_of(labels, pairs[i]) != label_of(labels, pairs[i + 1]) {
+            return false;
+        }
+        i += 2;
     }
+    true
 }

@@ -11,7 +11,7 @@ use Rattle.steps.specs.Steps.{steps_of, instructions_of, past_head, in_goal, num
 use Rattle.steps.specs.Order.{misplaced_under, refusal_by, judged_as, judged}
 use Rattle.check_lines.specs.Behind.{Line, no_more, a_number, a_place}
 use Rattle.check_lines.specs.CheckLines.{said_among, fields_say, line_says}
-use Rattle.classes.specs.Classes.{both_names, label_of, exchanged, joined, labels_after, own_labels, labelling, all_same}
+use Rattle.classes.specs.Classes.{pairs_of, both_names, label_of, exchanged, joined, labels_after, own_labels, labelling, all_same}
 use Rattle.symbolic.specs.Symbolic.{pushed, listed, spoilt_up_to, value_of, again, claimed, carried_all}
 use Rattle.verdict.specs.Verdict.{same_subterms, decided_by}
 use Rattle.check_sheets.specs.Running.{verdict}
@@ -28,5 +28,5 @@ line_refusal earlier line = refusal_of earlier line
 
 -- the verdict on all lines
 unfoldable pub lines_decided : List CheckLine → Bool
-unfolding verdict judged judged_as refusal_by misplaced_under has inserted decided_by same_subterms carried_all claimed again value_of spoilt_up_to listed pushed both_names label_of exchanged joined labels_after own_labels labelling all_same numbers_from
+unfolding verdict judged judged_as refusal_by misplaced_under has inserted decided_by same_subterms carried_all claimed again value_of spoilt_up_to listed pushed pairs_of both_names label_of exchanged joined labels_after own_labels labelling all_same numbers_from
 lines_decided lines = verdict lines

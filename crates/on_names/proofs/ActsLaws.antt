@@ -172,7 +172,7 @@ module _ (ρ : ℕ → ℕ) (step x y : ℕ) (d : Doing) (m : Machine) (a : Acts
       }
 
   acts_demands :
-      x < pair_cells → (name other n k : ℕ) → name < no_name → other < no_name → n ≡ ρ name → k ≡ ρ other
+      2 * x + 2 ≤ pair_cells → (name other n k : ℕ) → name < no_name → other < no_name → n ≡ ρ name → k ≡ ρ other
       → Acts ρ step (suc x) y (doing d.places (pushed d.demands name other) d.made) (demands m n k)
   acts_demands room name other n k low low' same same' =
       record {
@@ -188,7 +188,7 @@ module _ (ρ : ℕ → ℕ) (step x y : ℕ) (d : Doing) (m : Machine) (a : Acts
       }
 
   acts_adds :
-      y < pair_cells → (name n : ℕ) → n ≡ ρ name
+      2 * y + 2 ≤ pair_cells → (name n : ℕ) → n ≡ ρ name
       → Acts ρ step x (suc y) (doing d.places d.demands (pushed d.made step name)) (adds m n)
   acts_adds room name n same =
       record {
@@ -215,7 +215,7 @@ module _
     (m : Machine)
     (a : Acts ρ step most most d m)
     (few : step ≤ steps)
-    (room : most < pair_cells)
+    (room : 2 * most + 2 ≤ pair_cells)
   where
     own_name : step_name step < no_name
     own_name = omega arith

@@ -1,5 +1,5 @@
 -- Laws of what the steps want: under a choice each variable's value, and what is wanted, is the value of the name in its place.
-use Rattle.std.specs.Prelude.{ℕ, suc, ◌≤◌, ◌<◌, ◌≡◌, refl, true, false, eqb, length, get_or, set, Option, Some, None}
+use Rattle.std.specs.Prelude.{ℕ, suc, ◌+◌, ◌*◌, ◌≤◌, ◌<◌, ◌≡◌, refl, true, false, eqb, length, get_or, set, Option, Some, None}
 use Rattle.std.proofs.Math.Path.{sym}
 use Rattle.std.proofs.Common.{ap, ◌∙◌, length-set, get_or-set_same, get_or-set_other, eqb-true, ltb-true}
 use mathlib.Core.List.{List, [], ◌∷◌, ◌++◌, map, append-nil}
@@ -45,7 +45,7 @@ module _ (ρ : ℕ → ℕ) (offered n : ℕ) (low : offered < no_name) (same : 
 
   -- what a later head step demands
   pub again_stands :
-      (most : ℕ) → most < pair_cells → (wants : Pairs) → Table most wants → in_names (listed wants) ≡ true
+      (most : ℕ) → 2 * most + 2 ≤ pair_cells → (wants : Pairs) → Table most wants → in_names (listed wants) ≡ true
       → (equalities : List (ℕ × ℕ)) → equalities ≡ map (both ρ) (listed wants)
       → (held : Option ℕ) (value : Value) → ValueNamed ρ held value
       → Table (suc most) (again wants held offered)
@@ -110,7 +110,7 @@ module _
     (wanted-so-far : Wanted)
     (a : Asks ρ step w wanted-so-far)
   where
-    room : step < pair_cells
+    room : 2 * step + 2 ≤ pair_cells
     room = omega arith
 
     counted : suc wanted-so-far.steps ≡ next

@@ -1,5 +1,5 @@
 -- Laws of what the calls read: a goal's arguments, each register with the name that it has to hold, become claims.
-use Prim.Native.Nat.{ℕ, suc, ◌+◌, ◌≤◌, ◌<◌}
+use Prim.Native.Nat.{ℕ, suc, ◌+◌, ◌*◌, ◌≤◌}
 use Rattle.std.specs.Prelude.{◌≡◌, refl, true, length}
 use Rattle.std.proofs.Math.Path.{sym, ap, ap₂}
 use Rattle.std.proofs.Common.{◌∙◌, length-append}
@@ -9,6 +9,7 @@ use Rattle.sizes.specs.Sizes.{steps, is_register}
 use Rattle.registers.specs.declared.RegType.TheVariants.{Temp}
 use Rattle.machine.specs.Machine.{Contents}
 use Rattle.symbolic.specs.Names.{pair_cells}
+use Rattle.classes.specs.Classes.{pairs_of}
 use Rattle.symbolic.specs.declared.Pairs.{Pairs}
 use Rattle.symbolic.specs.Symbolic.{pairs, pushed, listed, held, claimed}
 use Rattle.on_names.specs.OnNames.{first, second}
@@ -39,14 +40,14 @@ claim places p = (held places (Temp p.0), p.1)
 
 module _ (places : List ℕ) where
   claimed-listed :
-      (arguments : List (ℕ × ℕ)) (most : ℕ) (claims : Pairs) → Table most claims → most + length arguments ≤ pair_cells
+      (arguments : List (ℕ × ℕ)) (most : ℕ) (claims : Pairs) → Table most claims → 2 * (most + length arguments) ≤ pair_cells
       → Table (most + length arguments) (claimed places claims arguments)
       × (listed (claimed places claims arguments) ≡ listed claims ++ map (claim places) arguments)
   unfolding claimed
   claimed-listed [] most claims t room = (table_more (most + 0) (omega arith) t, sym (append-nil (listed claims)))
   claimed-listed ((k, name) ∷ arguments) most claims t room =
       let here = held places (Temp k) in
-      let space : most < pair_cells = omega arith in
+      let space : 2 * most + 2 ≤ pair_cells = omega arith in
       let more = table-pushed most claims here name t space in
       let rest = claimed-listed arguments (suc most) (pushed claims here name) more (omega arith) in (
         table_more (most + suc (length arguments)) (omega arith) rest.0,
@@ -115,7 +116,7 @@ module _
         (k name n : ℕ) → is_register k ≡ true → n ≡ ρ name
         → Reads ρ next (pushed goal k name) claims (ks ++ k ∷ []) (names ++ n ∷ []) read arguments
     reads_argument k name n e same =
-        let room : step < pair_cells = omega arith in
+        let room : 2 * step + 2 ≤ pair_cells = omega arith in
         let more = listed-pushed step goal k name r.goal_table room in
         let longer = ap length more ∙ length-append (listed goal) ((k, name) ∷ []) in
         record {
@@ -133,7 +134,7 @@ module _
     pub reads_call :
         (places : List ℕ) (contents : Contents) → Places ρ places contents
         → Reads ρ next (pairs goal.cells 0) (claimed places claims (listed goal)) [] [] (read ++ map (λ k. contents (Temp k)) ks) (arguments ++ names)
-    unfolding listed
+    unfolding listed pairs_of
     reads_call places contents p =
         let exact = table_exact r.claims_table in
         let now = claimed-listed places (listed goal) (length (listed claims)) claims exact (omega (arith, r.few)) in

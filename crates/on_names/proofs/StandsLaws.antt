@@ -22,7 +22,7 @@ use Rattle.steps.specs.declared.Order.{Order}
 use Rattle.steps.specs.Steps.{is_get_value_or_unify, fits}
 use Rattle.steps.specs.Order.{head_step, kind_of, fresh_order, begun, done, following, judged}
 use Rattle.steps.specs.OrderLaws.{line-fits, accepted_order, begins_few, does_few, head_goes_on, demands_in_head, argument_and_variable_lem}
-use Rattle.classes.specs.Classes.{in_names}
+use Rattle.classes.specs.Classes.{pairs_of, in_names}
 use Rattle.machine.specs.Machine.{Contents, Machine, begins, does, stepped, run_from, at_entry, run}
 use Rattle.machine.specs.Machine.{carried as machine_carried}
 use Rattle.machine.specs.Wanted.{Wanted, wants, wanted_by, wanted_from, nothing_wanted}
@@ -184,7 +184,7 @@ module _
     line_does instruction good =
         let under = does_few order instruction good in
         let fit = line-fits order (Does instruction) good in
-        let room : most_done order < pair_cells = omega (arith, h.few) in
+        let room : 2 * most_done order + 2 ≤ pair_cells = omega (arith, h.few) in
         let in_head : is_get_value_or_unify instruction ≡ true → AllLabelled s.doing.places =
         λ demands. h.labelled (omega (arith, demands_in_head order instruction good demands)) in
         let acts-now = does_stands ρ order.steps (most_done order) s.doing m h.acts h.few room instruction fit in_head in
@@ -251,7 +251,7 @@ fresh_labelled : AllLabelled (numbers_from 0 place_cells)
 fresh_labelled place h = omega (arith, held-fresh place (place_name_lem place h), place_name_lem place h)
 
 none-listed : {A : Type 0} (f : ℕ × ℕ → A) → ◌≡◌ {A = List A} [] (map f (listed no_pairs))
-unfolding listed
+unfolding listed pairs_of
 none-listed f = refl
 
 module _ {ρ : ℕ → ℕ} {entry : Contents} {number : ℕ → ℕ} {left_by : ℕ → ℕ → ℕ} (agrees : Agrees ρ entry number left_by) where
@@ -263,7 +263,7 @@ module _ {ρ : ℕ → ℕ} {entry : Contents} {number : ℕ → ℕ} {left_by :
       }
 
   fresh_stands : Standing ρ fresh_order fresh_symbols (at_entry entry) nothing_wanted
-  unfolding listed in_names
+  unfolding listed pairs_of in_names
   fresh_stands =
       record {
         few = omega arith;

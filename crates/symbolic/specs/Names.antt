@@ -26,6 +26,6 @@ call_name call r = place_cells * call + place_name (Temp r)
 abbrev pub no_name : ℕ
 no_name = 3 * (steps + 1)
 
--- cells for pairs: one for each line of a sheet, a step line and its instructions for each step
+-- cells for pairs: two for each line of a sheet, a step line and its instructions for each step
 abbrev pub pair_cells : ℕ
-pair_cells = steps * (instructions + 1)
+pair_cells = 2 * (steps * (instructions + 1))

@@ -18,24 +18,28 @@ use Rattle.steps.specs.declared.CheckLine.TheVariants.{Begins, Does}
 use Rattle.steps.specs.declared.Order.{Order}
 use Rattle.steps.specs.declared.Judged.{Judged}
 use Rattle.steps.specs.Order.{judged}
+use Rattle.classes.specs.Classes.{pairs_of}
 use Rattle.symbolic.specs.declared.Pairs.{Pairs}
 use Rattle.symbolic.specs.declared.Doing.{Doing}
 use Rattle.symbolic.specs.declared.Wanting.{Wanting}
 use Rattle.symbolic.specs.declared.Symbols.{Symbols}
 use Rattle.symbolic.specs.Names.{place_name, step_name, place_cells, call_name, pair_cells}
 
--- ---- Pairs of numbers in a table, and how many of its cells count
+-- ---- Pairs of numbers in a table, two cells each, and how many cells count
 
-abbrev pub pairs : List (ℕ × ℕ) → ℕ → Pairs
+abbrev pub pairs : List ℕ → ℕ → Pairs
 pairs cells count = record { cells = cells; count = count }
 
 -- one pair more; a table that is full stays as it is
 unfoldable pub pushed : Pairs → ℕ → ℕ → Pairs
-pushed p a b = if ltb p.count pair_cells then pairs (set p.cells p.count (a, b)) (p.count + 1) else p
+pushed p a b =
+    if ltb (p.count + 1) pair_cells
+    then pairs (set (set p.cells p.count a) (p.count + 1) b) (p.count + 2)
+    else p
 
 -- the pairs that count, in order
 unfoldable pub listed : Pairs → List (ℕ × ℕ)
-listed p = take p.count p.cells
+listed p = pairs_of (take p.count p.cells)
 
 -- ---- What the instructions do
 
@@ -131,10 +135,18 @@ carried step s (Begins begins) =
     (claimed_at s.doing.places s.claims s.wanting.goal begins)
 carried step s (Does instruction) = symbols (did step s.doing instruction) s.wanting s.claims
 
--- at the start every place holds its own name, and nothing is demanded or wanted
 abbrev pub no_pairs : Pairs
-no_pairs = pairs (replicate pair_cells (0, 0)) 0
+no_pairs = pairs (replicate pair_cells 0) 0
 
+-- every place holds the name 0, and nothing is demanded or wanted
+abbrev pub nothing : Symbols
+nothing =
+    symbols
+    (doing (replicate place_cells 0) no_pairs no_pairs)
+    (wanting (replicate variables None) no_pairs no_pairs no_pairs)
+    no_pairs
+
+-- at the start every place holds its own name, and nothing is demanded or wanted
 abbrev pub fresh_symbols : Symbols
 fresh_symbols =
     symbols

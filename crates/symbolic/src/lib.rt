@@ -1,11 +1,12 @@
 // The run of a check sheet on names: both sides of the sheet, line by line.
 #![tactic(auto)]
 
-ghost use Rattle.std.specs.Prelude.{◌≤◌, ◌≡◌, true, length, get_or, set, Some, None};
+ghost use Rattle.std.specs.Prelude.{◌≤◌, ◌≡◌, true, length, get_or, set, take, Some, None};
 ghost use Rattle.notation.specs.Lists.{numbers_from};
 ghost use Rattle.sizes.specs.Sizes.{registers, steps as step_lines};
 ghost use Rattle.registers.specs.declared.RegType.TheVariants.{Temp};
 ghost use Rattle.steps.specs.Steps.{step_fits, fits};
+ghost use Rattle.classes.specs.Classes.{pairs_of};
 ghost use Rattle.symbolic.specs.Names.{place_name, step_name, place_cells, call_name};
 ghost use Rattle.symbolic.specs.Symbolic.{
   pushed,
@@ -21,7 +22,7 @@ ghost use Rattle.symbolic.specs.Symbolic.{
   claimed,
   claimed_at,
   carried,
-  fresh_symbols,
+  nothing,
   taking_of,
   taken,
 };
@@ -34,18 +35,21 @@ use steps::{CheckLine, Judged, Order, Step};
 
 // Cells for the contents of the places, each at its name.
 pub const PLACE_CELLS: usize = 3 * (LAST_REGISTER as usize + 1);
-// Cells for pairs: one for each line of a sheet.
-pub const PAIR_CELLS: usize = STEPS * (INSTRUCTIONS + 1);
+// Cells for pairs: two for each line of a sheet.
+pub const PAIR_CELLS: usize = 2 * (STEPS * (INSTRUCTIONS + 1));
 
 // The name that each place holds.
 pub type Places = [u32; PLACE_CELLS];
 // The name that is each variable's value, where a step has fixed one.
 pub type Values = [Option<u32>; VARIABLES];
 
+// Pairs of numbers, two cells each.
+pub type PairCells = [u32; PAIR_CELLS];
+
 // Pairs of numbers in a table, and how many of its cells count: there is no heap, so the room is there from the start.
 #[derive(Clone, Copy)]
 pub struct Pairs {
-    pub cells: [(u32, u32); PAIR_CELLS],
+    pub cells: PairCells,
     pub count: usize,
 }
 
@@ -77,13 +81,13 @@ pub struct Symbols {
 
 impl Pairs {
     // One pair more; a table that is full stays as it is.
-    #[tactic(auto, unfolding(crate::specs::Symbolic::pushed))]
     fn push(&mut self, a: u32, b: u32)
         ensures { self.new ≡ pushed self.old a b }
     {
-        if self.count < PAIR_CELLS {
-            self.cells[self.count] = (a, b);
-            self.count += 1;
+        if self.count < PAIR_CELLS - 1 {
+            self.cells[self.count] = a;
+            self.cells[self.count + 1] = b;
+            self.count += 2;
         }
     }
 
@@ -94,10 +98,10 @@ impl Pairs {
         self.count = 0;
     }
 
-    // The pairs that count, in order.
-    #[tactic(auto, using(std::proofs::Common::take_all), unfolding(crate::specs::Symbolic::listed))]
-    pub fn listed(&self) -> &[(u32, u32)]
-        ensures { result.now ≡ listed self.now }
+    // The cells that count, two a pair, in order.
+    #[tactic(auto, using(std::proofs::Common::take_all))]
+    pub fn listed(&self) -> &[u32]
+        ensures { result.now ≡ take self.now.count self.now.cells }
     {
         if self.count < PAIR_CELLS {
             return &self.cells[..self.count];
@@ -324,15 +328,18 @@ fn want(wanting: &mut Wanting, step: u32, begins: Step)
 }
 
 // Of each argument, a register's number and the name that it has to hold, pushes what it holds and that name.
-fn claim(places: &Places, arguments: &[(u32, u32)], claims: &mut Pairs)
-    ensures { claims.new ≡ claimed places.now claims.old arguments.now }
+fn claim(places: &Places, arguments: &[u32], claims: &mut Pairs)
+    ensures { claims.new ≡ claimed places.now claims.old (pairs_of arguments.now) }
 {
-    for (k, name) in arguments {
-        claims.push(held(places, RegType::Temp(*k)), *name);
+    let mut i = 0;
+    while i + 1 < arguments.len() {
+        claims.push(held(places, RegType::Temp(arguments[i])), arguments[i + 1]);
+        i += 2;
     }
 }
 
 // At `call`, claims the arguments of this goal and then spoils the registers; at another step nothing.
+#[tactic(auto, unfolding(crate::specs::Symbolic::listed))]
 fn call_at(places: &mut Places, goal: &Pairs, claims: &mut Pairs, step: u32, begins: Step)
     requires { step ≤ step_lines }
     ensures claims_after { claims.new ≡ claimed_at places.old claims.old goal.now begins }
@@ -392,7 +399,7 @@ pub fn take_line(order: Order, symbols: &mut Symbols, line: CheckLine) -> Judged
 // ---- At the start
 
 // Every place holds its own name.
-fn fresh_places() -> Places
+pub fn fresh_places() -> Places
     ensures { result ≡ numbers_from 0 place_cells }
 {
     let mut places = [0; PLACE_CELLS];
@@ -402,33 +409,28 @@ fn fresh_places() -> Places
     places
 }
 
-// No pairs.
-const NO_PAIRS: Pairs = Pairs {
-    cells: [(0, 0); PAIR_CELLS],
-    count: 0,
-};
-
-// Every place holds the name 0, and nothing is demanded or wanted.
-pub const NOTHING: Symbols = Symbols {
-    doing: Doing {
-        places: [0; PLACE_CELLS],
-        demands: NO_PAIRS,
-        made: NO_PAIRS,
-    },
-    wanting: Wanting {
-        values: [None; VARIABLES],
-        wants: NO_PAIRS,
-        due: NO_PAIRS,
-        goal: NO_PAIRS,
-    },
-    claims: NO_PAIRS,
-};
-
-// Every place holds its own name, and nothing is demanded or wanted. The value is lent, since one that is handed back takes its
-// room twice.
-pub fn begin(symbols: &mut Symbols)
-    ensures { symbols.new ≡ fresh_symbols }
+// Every place holds the name 0, and nothing is demanded or wanted. Inlined, so that the value is made where it is wanted: one that
+// is handed back takes its room twice.
+#[inline(always)]
+pub fn nothing() -> Symbols
+    ensures { result ≡ nothing }
 {
-    *symbols = NOTHING;
-    symbols.doing.places = fresh_places();
+    let none = Pairs {
+        cells: [0; PAIR_CELLS],
+        count: 0,
+    };
+    Symbols {
+        doing: Doing {
+            places: [0; PLACE_CELLS],
+            demands: none,
+            made: none,
+        },
+        wanting: Wanting {
+            values: [None; VARIABLES],
+            wants: none,
+            due: none,
+            goal: none,
+        },
+        claims: none,
+    }
 }

@@ -1,3 +1,4 @@
 pub mod Verdict
 pub mod SubtermsLaws
+pub mod PartsLaws
 pub mod VerdictLaws

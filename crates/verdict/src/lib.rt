@@ -2,50 +2,54 @@
 #![tactic(auto)]
 
 ghost use Rattle.std.specs.Prelude.{◌≡◌};
-ghost use Rattle.std.specs.List.{list_all, zip};
-ghost use Rattle.classes.specs.Classes.{labelling, all_same};
-ghost use Rattle.verdict.specs.Verdict.{agree, same_subterms, decided};
+ghost use Rattle.classes.specs.Classes.{pairs_of, labelling, all_same};
+ghost use Rattle.verdict.specs.Verdict.{same_subterms, decided};
 
 use classes::Labels;
 use symbolic::Symbols;
 
-// Whether each two subterms agree, as far as both lists go: in their steps, and in the labels of their names.
-fn all_agree(labels: &Labels, made: &[(u32, u32)], due: &[(u32, u32)]) -> bool
-    ensures { result ≡ list_all (agree labels.now) (zip made.now due.now) }
+// Whether two subterm lists agree: in length, in their steps, and in the labels of their names. By number, since a lone last cell
+// is left out.
+fn same_subterms(labels: &Labels, made: &[u32], due: &[u32]) -> bool
+    ensures { result ≡ same_subterms labels.now (pairs_of made.now) (pairs_of due.now) }
 {
-    made.iter().zip(due).all(|((step, name), (other_step, other))| {
-        step == other_step && labels.label_of(*name) == labels.label_of(*other)
-    })
-}
-
-// Whether two subterm lists agree: in length, and in each subterm.
-fn same_subterms(labels: &Labels, made: &[(u32, u32)], due: &[(u32, u32)]) -> bool
-    ensures { result ≡ same_subterms labels.now made.now due.now }
-{
-    made.len() == due.len() && all_agree(labels, made, due)
+    let mut i = 0;
+    while i + 1 < made.len() {
+        if due.len() <= i + 1 {
+            return false;
+        }
+        if made[i] != due[i] {
+            return false;
+        }
+        if classes::label_of(labels, made[i + 1]) != classes::label_of(labels, due[i + 1]) {
+            return false;
+        }
+        i += 2;
+    }
+    due.len() <= i + 1
 }
 
 // Whether the pairs wanted force the pairs demanded.
-fn is_demanded_wanted(demands: &[(u32, u32)], wants: &[(u32, u32)]) -> bool
-    ensures { result ≡ all_same (labelling wants.now) demands.now }
+fn is_demanded_wanted(demands: &[u32], wants: &[u32]) -> bool
+    ensures { result ≡ all_same (labelling (pairs_of wants.now)) (pairs_of demands.now) }
 {
-    let mut labels = Labels::new();
-    labels.label(wants);
-    labels.all_same(demands)
+    let mut labels = classes::room();
+    classes::label(&mut labels, wants);
+    classes::all_same(&labels, demands)
 }
 
 // Whether the instructions are right: what they demand forces what is wanted, each argument and each subterm, and what is
 // wanted forces what they demand.
-#[tactic(auto, unfolding(crate::specs::Verdict::decided_by))]
+#[tactic(auto, unfolding(crate::specs::Verdict::decided_by, symbolic::specs::Symbolic::listed))]
 pub fn is_right(symbols: &Symbols) -> bool
     ensures { result ≡ decided symbols.now }
 {
     let demanded = symbols.doing.demands.listed();
     let wanted = symbols.wanting.wants.listed();
-    let mut labels = Labels::new();
-    labels.label(demanded);
-    labels.all_same(wanted)
-        && labels.all_same(symbols.claims.listed())
+    let mut labels = classes::room();
+    classes::label(&mut labels, demanded);
+    classes::all_same(&labels, wanted)
+        && classes::all_same(&labels, symbols.claims.listed())
         && same_subterms(
             &labels,
             symbols.doing.made.listed(),

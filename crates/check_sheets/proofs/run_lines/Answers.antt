@@ -4,12 +4,17 @@ use mathlib.Core.Path.{ap, refl}
 use native.Mathlib.Omega.{arith}
 use lib.ListN.{length}
 use Rattle.split.specs.SplitLaws.{drop_shorter}
+use Rattle.symbolic.specs.TablesLaws.{begun_lem}
 use Rattle.check_sheets.specs.RunningLaws.{going-first, going-last, going-refused, going_on_lem}
 use Rattle.check_sheets.proofs.run_lines.Goals as goal
 
 pub loop-end-init : goal.loop-end-init
 loop-end-init c =
-    going-first _ c.fresh_order-order.ensures c.begin.ensures c.end_of-end.ensures
+    going-first
+    _
+    c.fresh_order-order.ensures
+    (begun_lem c.nothing-symbols.ensures c.fresh_places-symbols.ensures)
+    c.end_of-end.ensures
 
 pub returns-in-Some : goal.returns-in-Some
 returns-in-Some c =
