@@ -197,7 +197,9 @@ fn run_lines(sheet: &[u8], list: &mut [u32], out: &mut [u8], from: usize) -> Run
 }
 
 // Runs over a sheet, whose text is put at a place. The list of a small or a short one is no longer than such a sheet, since
-// clearing it takes longer than running.
+// clearing it takes longer than running. Inlined, so that a bundle takes the room of the longest list once, and not for each
+// clause.
+#[inline(always)]
 pub fn run_sheet(sheet: &[u8], out: &mut [u8], at: usize) -> Run
     ensures value { result ≡ told (whole_ran sheet.now) }
     ensures out_after { out.new ≡ printed out.old at (whole_ran sheet.now).text }
