@@ -76,7 +76,7 @@ enum {
     /* No event prints more, nor does fenomirask_end. */
     FENOMIRASK_EVENT_ROOM = 256,
     /* A thread with so much stack may call. fenomirask_events takes about 350 KB of it, for a short sheet too,
-     * fenomirask_check about 70, fenomirask_bundle about 360, and fenomirask_event as much as fenomirask_events; a thread
+     * fenomirask_check about 75, fenomirask_bundle about 360, and fenomirask_event as much as fenomirask_events; a thread
      * that may call it may call fenomirask_fresh and fenomirask_end. Look at what your threads have: with musl a thread
      * has 128 KiB unless it asks for more (pthread_attr_setstacksize), which is enough for fenomirask_check alone. */
     FENOMIRASK_EVENTS_STACK = 393216,
