@@ -162,12 +162,12 @@ module _ (parents labels : List ℕ) (falling : Falling parents) (rooted : Roote
   linked_joined : (high low : ℕ) → high ≡ max a b → low ≡ min a b → map (exchanged high low) labels ≡ joined labels x y
   linked_joined high low top bottom = rw (joined-both labels x y (names-both x y hx hy), ← ea, ← eb, ← top, ← bottom)
 
-  second_linked : a ≤ b → Rooted (set parents b a) (joined labels x y)
+  pub second_linked : a ≤ b → Rooted (set parents b a) (joined labels x y)
   second_linked order =
       rw (← linked_joined b a (omega arith) (omega arith))
       (linked_rooted parents labels falling rooted b a hb order second-settled first-settled)
 
-  first_linked : b ≤ a → Rooted (set parents a b) (joined labels x y)
+  pub first_linked : b ≤ a → Rooted (set parents a b) (joined labels x y)
   first_linked order =
       rw (← linked_joined a b (omega arith) (omega arith))
       (linked_rooted parents labels falling rooted a b ha order first-settled second-settled)
@@ -193,10 +193,14 @@ module _ (before between after : List ℕ) (x y a b : ℕ) (hx : x < names) (hy 
       }
 
 -- a pair with a number that is no name
+pub unlinked_rooted :
+    (parents labels : List ℕ) (x y : ℕ) → both_names x y ≡ false → Rooted parents labels → Rooted parents (joined labels x y)
+unlinked_rooted parents labels x y e rooted = rw (joined-none labels x y e) rooted
+
 pub unlinked :
     (parents : List ℕ) → Falling parents → (x y : ℕ) → both_names x y ≡ false → Became (λ labels. joined labels x y) parents parents
 unlinked parents falling x y e =
-    record { falling = falling; rooted = λ labels rooted. rw (joined-none labels x y e) rooted }
+    record { falling = falling; rooted = λ labels rooted. unlinked_rooted parents labels x y e rooted }
 
 -- ---- Pair after pair
 
@@ -210,12 +214,17 @@ pub toward_start :
     (labels parents : List ℕ) (pairs : List (ℕ × ℕ)) → Rooted parents labels → Toward (labels_after labels pairs) pairs parents
 toward_start labels parents pairs rooted = record { labels = labels; rooted = rooted; leads = refl }
 
+pub toward_rooted :
+    (end : List ℕ) (x y : ℕ) (left : List (ℕ × ℕ)) (before after : List ℕ) → Toward end ((x, y) ∷ left) before
+    → ((labels : List ℕ) → Rooted before labels → Rooted after (joined labels x y)) → Toward end left after
+unfolding labels_after
+toward_rooted end x y left before after toward became =
+    record { labels = joined toward.labels x y; rooted = became toward.labels toward.rooted; leads = toward.leads }
+
 pub toward_next :
     (end : List ℕ) (x y : ℕ) (left : List (ℕ × ℕ)) (before after : List ℕ) → Toward end ((x, y) ∷ left) before
     → Became (λ labels. joined labels x y) before after → Toward end left after
-unfolding labels_after
-toward_next end x y left before after toward became =
-    record { labels = joined toward.labels x y; rooted = became.rooted toward.labels toward.rooted; leads = toward.leads }
+toward_next end x y left before after toward became = toward_rooted end x y left before after toward became.rooted
 
 pub toward_end : (end parents : List ℕ) → Toward end [] parents → Rooted parents end
 unfolding labels_after

@@ -1,11 +1,14 @@
-// Which names a list of equalities makes equal: each name is labelled with the least name of its class. The list is flat, two
-// numbers a pair; a lone last number is left out. A number that is no name is its own label, and a pair with one makes nothing
-// equal.
+// Which names a list of equalities makes equal: each name is labelled with the least name of its class. The list is one of pairs, or
+// a flat one, two numbers a pair, of which a lone last number is left out. A number that is no name is its own label, and a pair
+// with one makes nothing equal.
 #![tactic(auto)]
 
 ghost use Rattle.std.specs.Prelude.{ℕ, ◌≡◌, ◌<◌, List, replicate};
 ghost use Rattle.classes.specs.Classes.{names, pairs_of, label_of, joined, labels_after, own_labels, labelling, all_same};
 ghost use Rattle.classes.specs.Parents.{Falling, Found, Became, Flattened};
+
+#[cfg(test)]
+mod tests;
 
 use sizes::STEPS;
 use std::marker::Model;
@@ -14,37 +17,39 @@ use std::marker::Model;
 pub const NAMES: usize = 3 * (STEPS + 1);
 
 // Of each name its label, the least name of its class.
-pub type Labels = [u32; NAMES];
+pub type LabelCells = [u32; NAMES];
 
-// Room for labels.
-pub fn room() -> Labels
+// Room for labels, one cell each.
+pub fn room() -> LabelCells
     ensures { result ≡ replicate names 0 }
 {
     [0; NAMES]
 }
 
-// The classes while pairs are joined: of each name its parent, a name of its class that is not above it.
-#[derive(Drop)]
-struct Parents {
-    parents: Labels,
+// Of each name its label; or, while pairs are joined, its parent: a name of its class that is not above it.
+#[derive(Clone, Copy)]
+pub struct Labels {
+    parents: LabelCells,
 }
 
-impl Model for Parents {
+impl Model for Labels {
     ghost Value = { List ℕ };
 
-    ghost view = { λ table. table.parents };
+    ghost view = { λ labels. labels.parents };
 
-    ghost invariant = { λ table. Falling table.parents };
+    ghost invariant = { λ labels. Falling labels.parents };
 
     ghost inverse = { λ parents. record { parents = parents } };
 }
 
-impl Parents {
-    // Room for a parent of each name.
-    fn new() -> Parents
+impl Labels {
+    // Room for labels.
+    pub fn new() -> Labels
         ensures { result ≡ replicate names 0 }
     {
-        Parents { parents: room() }
+        Labels {
+            parents: [0; NAMES],
+        }
     }
 
     // Puts each name in a class of its own.
@@ -94,8 +99,19 @@ impl Parents {
         self.parents[a as usize] = b;
     }
 
-    // Joins pair after pair, two numbers at a time.
-    fn join_all(&mut self, pairs: &[u32])
+    // Joins pair after pair.
+    fn join_all(&mut self, pairs: &[(u32, u32)])
+        ensures { Became (λ labels. labels_after labels pairs.now) self.old self.new }
+    {
+        // Looked at for what holds of every table, also where nothing is joined.
+        let _ = &self.parents;
+        for (x, y) in pairs {
+            self.join(*x, *y);
+        }
+    }
+
+    // Joins pair after pair of a flat list, two numbers at a time.
+    fn join_flat(&mut self, pairs: &[u32])
         ensures { Became (λ labels. labels_after labels (pairs_of pairs.now)) self.old self.new }
     {
         // Looked at for what holds of every table, also where nothing is joined.
@@ -116,29 +132,55 @@ impl Parents {
             self.parents[x] = self.parents[parent as usize];
         }
     }
+
+    // Labels each name with the least name that the pairs make equal to it.
+    pub fn label(&mut self, pairs: &[(u32, u32)])
+        ensures { self.new ≡ labelling pairs.now }
+    {
+        self.fill();
+        self.join_all(pairs);
+        self.flatten();
+    }
+
+    // The label of a name; a number that is no name is its own.
+    pub fn label_of(&self, x: u32) -> u32
+        ensures { result ≡ label_of self.now x }
+    {
+        label_of(&self.parents, x)
+    }
+
+    // Whether all pairs have one label each.
+    #[tactic(auto, unfolding(crate::specs::Classes::all_same))]
+    pub fn all_same(&self, pairs: &[(u32, u32)]) -> bool
+        ensures { result ≡ all_same self.now pairs.now }
+    {
+        pairs
+            .iter()
+            .all(|(x, y)| self.label_of(*x) == self.label_of(*y))
+    }
 }
 
-// Labels each name with the least name that the pairs make equal to it.
-pub fn label(labels: &mut Labels, pairs: &[u32])
+// Labels each name with the least name that the pairs of a flat list make equal to it.
+pub fn label(labels: &mut LabelCells, pairs: &[u32])
     ensures { labels.new ≡ labelling (pairs_of pairs.now) }
 {
-    let mut table = Parents::new();
+    let mut table = Labels::new();
     table.fill();
-    table.join_all(pairs);
+    table.join_flat(pairs);
     table.flatten();
     *labels = table.parents;
 }
 
 // The label of a name; a number that is no name is its own.
 #[tactic(auto, unfolding(crate::specs::Classes::label_of))]
-pub fn label_of(labels: &Labels, x: u32) -> u32
+pub fn label_of(labels: &LabelCells, x: u32) -> u32
     ensures { result ≡ label_of labels.now x }
 {
     labels.get(x as usize).copied().unwrap_or(x)
 }
 
-// Whether all pairs have one label each.
-pub fn all_same(labels: &Labels, pairs: &[u32]) -> bool
+// Whether all pairs of a flat list have one label each.
+pub fn all_same(labels: &LabelCells, pairs: &[u32]) -> bool
     ensures { result ≡ all_same labels.now (pairs_of pairs.now) }
 {
     let mut i = 0;

@@ -5,12 +5,12 @@ ghost use Rattle.std.specs.Prelude.{◌≡◌};
 ghost use Rattle.classes.specs.Classes.{pairs_of, labelling, all_same};
 ghost use Rattle.verdict.specs.Verdict.{same_subterms, decided};
 
-use classes::Labels;
+use classes::LabelCells;
 use symbolic::Symbols;
 
 // Whether two subterm lists agree: in length, in their steps, and in the labels of their names. By number, since a lone last cell
 // is left out.
-fn same_subterms(labels: &Labels, made: &[u32], due: &[u32]) -> bool
+fn same_subterms(labels: &LabelCells, made: &[u32], due: &[u32]) -> bool
     ensures { result ≡ same_subterms labels.now (pairs_of made.now) (pairs_of due.now) }
 {
     let mut i = 0;

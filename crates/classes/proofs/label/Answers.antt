@@ -5,4 +5,4 @@ use Rattle.classes.proofs.label.Goals as goal
 
 pub returns : goal.returns
 unfolding labelling
-returns c = rw c.table.view_is (c.flatten.ensures _ (c.join_all.ensures.rooted own_labels (rw c.fill.ensures own_rooted)))
+returns c = rw c.table.view_is (c.flatten.ensures _ (c.join_flat.ensures.rooted own_labels (rw c.fill.ensures own_rooted)))

@@ -1,8 +1,8 @@
--- `classes::Parents::find`: the name reached has the label of `x`, and no label changed. The measure is that name, since the walk
+-- `classes::Labels::find`: the name reached has the label of `x`, and no label changed. The measure is that name, since the walk
 -- falls. Assumes nothing.
 use Rattle.std.proofs.Common.{arith}
 use Rattle.classes.specs.ParentsLaws.{walked_start, walked-below, walked_next, walked_end}
-use Rattle.classes.proofs.Parents.find.Goals as goal
+use Rattle.classes.proofs.Labels.find.Goals as goal
 
 pub loop-parent-init : goal.loop-parent-init
 loop-parent-init c = walked_start _ _ c.requires c.self.invariant

@@ -1,9 +1,9 @@
--- `classes::Parents::join_all`: the pairs that are left lead from the labels now to the labels after all. The measure is what is
+-- `classes::Labels::join_flat`: the pairs that are left lead from the labels now to the labels after all. The measure is what is
 -- left of the pairs. Assumes nothing.
 use Rattle.std.proofs.Common.{arith}
 use Rattle.classes.specs.ClassesLaws.{pairs_next, pairs_end}
 use Rattle.classes.specs.ParentsLaws.{toward_start, toward_next, toward_end}
-use Rattle.classes.proofs.Parents.join_all.Goals as goal
+use Rattle.classes.proofs.Labels.join_flat.Goals as goal
 
 pub loop-i-init : goal.loop-i-init
 loop-i-init c = (omega arith, rw c.self.view_is at c.self.invariant, λ labels rooted. toward_start labels _ _ rooted)

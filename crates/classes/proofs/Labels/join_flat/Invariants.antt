@@ -1,10 +1,10 @@
--- `classes::Parents::join_all`: the pairs that are left lead from the labels now to the labels after all. The measure is what is
+-- `classes::Labels::join_flat`: the pairs that are left lead from the labels now to the labels after all. The measure is what is
 -- left of the pairs. Assumes nothing.
 use Rattle.std.proofs.Common.{ℕ, ◌-◌, ◌≤◌, List, length, drop}
 use Rattle.classes.specs.Classes.{pairs_of, labels_after}
 use Rattle.classes.specs.Parents.{Falling, Rooted}
 use Rattle.classes.specs.ParentsLaws.{Toward}
-use Rattle.classes.proofs.Parents.join_all.Given as goal
+use Rattle.classes.proofs.Labels.join_flat.Given as goal
 
 abbrev pub invariant-loop-i : goal.invariant-loop-i
 invariant-loop-i l =

@@ -1,7 +1,7 @@
--- `classes::Parents::flatten`: the names passed have their labels for parents. Assumes nothing.
+-- `classes::Labels::flatten`: the names passed have their labels for parents. Assumes nothing.
 use Rattle.std.proofs.Common.{arith, add-one}
 use Rattle.classes.specs.ParentsLaws.{passed_start, passed_next, passed_end}
-use Rattle.classes.proofs.Parents.flatten.Goals as goal
+use Rattle.classes.proofs.Labels.flatten.Goals as goal
 
 pub loop-x-init : goal.loop-x-init
 loop-x-init c = passed_start _ c.self.invariant

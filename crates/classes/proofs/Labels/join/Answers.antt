@@ -1,8 +1,8 @@
--- `classes::Parents::join`: the two labels found are linked, or a number is no name and nothing changed. Assumes nothing.
+-- `classes::Labels::join`: the two labels found are linked, or a number is no name and nothing changed. Assumes nothing.
 use Rattle.std.proofs.Common.{rules}
 use Rattle.classes.specs.ClassesLaws.{first_outside, second_outside}
 use Rattle.classes.specs.ParentsLaws.{unlinked, first-joined, second-joined}
-use Rattle.classes.proofs.Parents.join.Goals as goal
+use Rattle.classes.proofs.Labels.join.Goals as goal
 
 pub returns-then-x : goal.returns-then-x
 returns-then-x c = unlinked _ (rw c.self.view_is at c.self.invariant) _ _ (first_outside _ _ c.if-x.true)

@@ -1,6 +1,6 @@
--- `classes::Parents::flatten`: the names passed have their labels for parents. Assumes nothing.
+-- `classes::Labels::flatten`: the names passed have their labels for parents. Assumes nothing.
 use Rattle.classes.specs.ParentsLaws.{Passed}
-use Rattle.classes.proofs.Parents.flatten.Given as goal
+use Rattle.classes.proofs.Labels.flatten.Given as goal
 
 abbrev pub invariant-loop-x : goal.invariant-loop-x
 invariant-loop-x l = Passed l.initial.self-inside.parents l.self-inside.parents l.x
