@@ -162,15 +162,27 @@ module _ (parents labels : List ℕ) (falling : Falling parents) (rooted : Roote
   linked_joined : (high low : ℕ) → high ≡ max a b → low ≡ min a b → map (exchanged high low) labels ≡ joined labels x y
   linked_joined high low top bottom = rw (joined-both labels x y (names-both x y hx hy), ← ea, ← eb, ← top, ← bottom)
 
-  pub second_linked : a ≤ b → Rooted (set parents b a) (joined labels x y)
+  second_linked : a ≤ b → Rooted (set parents b a) (joined labels x y)
   second_linked order =
       rw (← linked_joined b a (omega arith) (omega arith))
       (linked_rooted parents labels falling rooted b a hb order second-settled first-settled)
 
-  pub first_linked : b ≤ a → Rooted (set parents a b) (joined labels x y)
+  first_linked : b ≤ a → Rooted (set parents a b) (joined labels x y)
   first_linked order =
       rw (← linked_joined a b (omega arith) (omega arith))
       (linked_rooted parents labels falling rooted a b ha order first-settled second-settled)
+
+-- both labels found, then the link: from what the two walks found, with nothing asked of the tables before the last
+module _ (before between after : List ℕ) (x y a b : ℕ) (hx : x < names) (hy : y < names) (ha : a < names) (hb : b < names) (falling : Falling after) (first_rooted : (labels : List ℕ) → Rooted before labels → Rooted between labels) (first_found : (labels : List ℕ) → Rooted before labels → a ≡ label_of labels x) (second_rooted : (labels : List ℕ) → Rooted between labels → Rooted after labels) (second_found : (labels : List ℕ) → Rooted between labels → b ≡ label_of labels y) where
+  pub second-joined_rooted : a ≤ b → (labels : List ℕ) → Rooted before labels → Rooted (set after b a) (joined labels x y)
+  second-joined_rooted order labels rooted =
+      let kept = first_rooted labels rooted in
+      second_linked after labels falling (second_rooted labels kept) x y a b hx hy ha hb (first_found labels rooted) (second_found labels kept) order
+
+  pub first-joined_rooted : b ≤ a → (labels : List ℕ) → Rooted before labels → Rooted (set after a b) (joined labels x y)
+  first-joined_rooted order labels rooted =
+      let kept = first_rooted labels rooted in
+      first_linked after labels falling (second_rooted labels kept) x y a b hx hy ha hb (first_found labels rooted) (second_found labels kept) order
 
 -- both labels found, then the link
 module _ (before between after : List ℕ) (x y a b : ℕ) (hx : x < names) (hy : y < names) (first : Found before x between a) (second : Found between y after b) where
@@ -178,18 +190,14 @@ module _ (before between after : List ℕ) (x y a b : ℕ) (hx : x < names) (hy 
   second-joined order =
       record {
         falling = put_falling after second.falling b a second.name order;
-        rooted = λ labels rooted.
-            (let kept = first.rooted labels rooted in
-            second_linked after labels second.falling (second.rooted labels kept) x y a b hx hy first.name second.name (first.found labels rooted) (second.found labels kept) order);
+        rooted = second-joined_rooted before between after x y a b hx hy first.name second.name second.falling first.rooted first.found second.rooted second.found order;
       }
 
   pub first-joined : b ≤ a → Became (λ labels. joined labels x y) before (set after a b)
   first-joined order =
       record {
         falling = put_falling after second.falling a b first.name order;
-        rooted = λ labels rooted.
-            (let kept = first.rooted labels rooted in
-            first_linked after labels second.falling (second.rooted labels kept) x y a b hx hy first.name second.name (first.found labels rooted) (second.found labels kept) order);
+        rooted = first-joined_rooted before between after x y a b hx hy first.name second.name second.falling first.rooted first.found second.rooted second.found order;
       }
 
 -- a pair with a number that is no name
